@@ -1,0 +1,10 @@
+pub mod Sums
+pub mod Program
+pub mod Limits
+pub mod Rooms
+pub mod Changes
+pub mod Claim
+pub mod Optimum
+pub mod Prices
+pub mod Displacement
+pub mod Laws

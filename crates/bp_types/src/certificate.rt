@@ -1,0 +1,22 @@
+use std::marker::Model;
+
+/// An allocation and bid prices, with the value that both are said to have.
+///
+/// Contracts see a number and two lists.
+#[derive(Debug, Drop)]
+pub struct Certificate {
+    /// In minor units of money, times the unit of the instance.
+    pub value: u128,
+    /// How many units of each stay are sold, one number per stay.
+    pub sell: Vec<u64>,
+    /// The bid price of each night, one number per night, in minor units of money.
+    pub prices: Vec<u64>,
+}
+
+impl Model for Certificate {
+    ghost use Rattle.bp_types.specs.Claim.{Claim};
+
+    ghost Value = { Claim };
+
+    ghost view = { λ a. record { value = a.value; sell = a.sell.items; prices = a.prices.items } };
+}

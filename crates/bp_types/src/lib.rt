@@ -1,0 +1,24 @@
+//! The deterministic linear program of a hotel: rooms by night, stays, allocations and bid prices.
+//!
+//! Nights are numbered from 0. Money is in minor units, rooms and forecasts are counted in units: one
+//! room is one unit, or a hundred where a house counts in hundredths. Source of the program, its dual
+//! and its use for bid prices: Talluri and van Ryzin, The Theory and Practice of Revenue Management, 2004.
+#![tactic(auto)]
+
+mod certificate;
+mod change;
+mod instance;
+pub mod law;
+mod limits;
+mod memory;
+mod prices;
+mod stay;
+mod steps;
+
+pub use certificate::Certificate;
+pub use change::Change;
+pub use instance::Instance;
+pub use limits::InstanceError;
+pub use memory::Memory;
+pub use stay::{Span, Stay};
+pub use steps::Steps;

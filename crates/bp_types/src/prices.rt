@@ -1,0 +1,40 @@
+ghost use Rattle.std.specs.Prelude.{◌≡◌, ◌-◌, ◌≤◌, length, slice_index};
+ghost use Rattle.bp_types.specs.Prices.{SumUp};
+
+use crate::Span;
+
+/// One place for each night, and one for the morning after the last.
+const PLACES: usize = 401;
+
+/// The sums of prices from each night to the last one, from which the price of a span is one difference.
+#[derive(Clone, Copy)]
+pub(crate) struct PriceSums {
+    sums: [u128; PLACES],
+}
+
+impl PriceSums {
+    /// The sums of one price per night.
+    pub(crate) fn of(prices: &[u64]) -> PriceSums
+        requires { length prices.now ≤ 400 }
+        ensures { SumUp prices.now result.sums }
+    {
+        let mut sums = [0; PLACES];
+        let nights = prices.len();
+        let mut sum: u128 = 0;
+        for gone in 0..nights {
+            let night = nights - 1 - gone;
+            sum += u128::from(prices[night]);
+            sums[night] = sum;
+        }
+        PriceSums { sums }
+    }
+
+    /// The price of a span within the nights.
+    pub(crate) fn price(&self, span: Span) -> u128
+        requires ordered { span.from ≤ span.to }
+        requires within { span.to ≤ 400 }
+        ensures { result ≡ slice_index self.now.sums span.from - slice_index self.now.sums span.to }
+    {
+        self.sums[span.from as usize].saturating_sub(self.sums[span.to as usize])
+    }
+}

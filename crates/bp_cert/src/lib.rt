@@ -1,0 +1,7 @@
+//! Certificates: the checker, and the texts of problems and certificates.
+#![tactic(auto)]
+
+mod loads;
+mod verdict;
+
+pub use verdict::{Verdict, check};

@@ -30,7 +30,7 @@ load_moves p sell n limits =
     let out : ℕ → ℕ = λ j. cond ((s j).span.to == n + 1) (y j) 0 in
     let «in» : ℕ → ℕ = λ j. cond ((s j).span.from == n + 1) (y j) 0 in
     let both : sum_below (λ j. there (n + 1) j + out j) m ≡ sum_below (λ j. there n j + «in» j) m =
-        sum_below-cong _ _ m (λ j h. one_stay_moves (s j).span.from (s j).span.to n (y j) (limits.spans j no_stay h).0) in
+    sum_below-cong _ _ m (λ j h. one_stay_moves (s j).span.from (s j).span.to n (y j) (limits.spans j no_stay h).0) in
     omega (arith, both, sum_below-add (there (n + 1)) out m, sum_below-add (there n) «in» m)
 
 pub first_load : (p : Program) (sell : List ℕ) → IsWithinLimits p → load p sell 0 + departing p sell 0 ≡ arriving p sell 0

@@ -1,2 +1,4 @@
 pub mod Verdicts
 pub mod Loads
+pub mod Numbers
+pub mod Lines

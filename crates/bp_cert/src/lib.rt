@@ -1,7 +1,10 @@
 //! Certificates: the checker, and the texts of problems and certificates.
 #![tactic(auto)]
 
+pub mod lines;
 mod loads;
+mod text_error;
 mod verdict;
 
+pub use text_error::TextError;
 pub use verdict::{Verdict, check};

@@ -3,6 +3,7 @@
 
 pub mod lines;
 mod loads;
+mod problem_text;
 mod text_error;
 mod verdict;
 

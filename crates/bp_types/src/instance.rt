@@ -44,8 +44,8 @@ impl Instance {
         }
     }
 
-    /// The instance of rooms and stays that keep to the limits.
-    pub(crate) fn within(rooms: Vec<u64>, stays: Vec<Stay>) -> Instance
+    /// The instance of rooms and stays that are known to keep to the limits.
+    pub fn within(rooms: Vec<u64>, stays: Vec<Stay>) -> Instance
         requires { IsWithinLimits (record { rooms = rooms.items; stays = stays.items }) }
         ensures { result ≡ record { rooms = rooms.items; stays = stays.items } }
     {

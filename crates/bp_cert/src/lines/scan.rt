@@ -1,4 +1,4 @@
-ghost use Rattle.std.specs.Prelude.{◌≡◌, ◌≢◌, ℕ, ◌+◌, ◌<◌, ◌≤◌, ◌++◌, ◌∷◌, length, slice_index, MatchOption};
+ghost use Rattle.std.specs.Prelude.{◌≡◌, ◌≢◌, ℕ, ◌+◌, ◌^◌, ◌<◌, ◌≤◌, ◌++◌, ◌∷◌, length, slice_index, MatchOption};
 ghost use Rattle.bp_cert.specs.Lines.{Given, HasNoEnd, GivesLine};
 
 use std::marker::Model;
@@ -54,7 +54,8 @@ impl<'a> Lines<'a> {
 
     /// How many lines were given.
     pub fn given(&self) -> u64
-        ensures { result ≡ self.now.given }
+        ensures value { result ≡ self.now.given }
+        ensures small { result < 2 ^ 63 }
     {
         self.given
     }

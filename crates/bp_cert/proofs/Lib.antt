@@ -7,3 +7,4 @@ pub mod NextLemmas
 pub mod StageLemmas
 pub mod ProblemLemmas
 pub mod WholeLemmas
+pub mod ClaimLemmas

@@ -40,7 +40,7 @@ claim_lines c =
 
 -- the lines of a certificate
 abbrev pub certificate_lines : Claim → List Line
-certificate_lines c = codes "certificate 1" ∷ claim_lines c ++ codes "end" ∷ []
+certificate_lines c = codes "certificate 1" ∷ (claim_lines c ++ codes "end" ∷ [])
 
 -- a number that fits a machine word
 abbrev pub IsWord : ℕ → Type 0

@@ -6,6 +6,7 @@ pub(crate) mod next;
 mod scan;
 mod word;
 
+pub use crate::certificate_text::certificate_lines;
 pub use decimal::number;
 pub use scan::Lines;
 pub use word::Number;

@@ -48,8 +48,7 @@ returns c =
     let nights = c.in_ok-nights.ensures.1 0 0 (omega arith) in
     let count = c.in_ok-stays.ensures.1 0 0 (omega arith) in
     let each : length rooms ≡ c.in_ok-nights.nights = c.in_ok-exact_line.ensures.0 in
-    let P : ℕ → Type 0 = λ n. GivesLines c.args.lines.now c.number_line-2.new.lines (first_line ∷ nights_line n ∷ rooms_line rooms ∷ count_line c.in_ok-stays.stays ∷ []) c.number_line-2.new.lines.rest in
-    (
+    let P : ℕ → Type 0 = λ n. GivesLines c.args.lines.now c.number_line-2.new.lines (first_line ∷ nights_line n ∷ rooms_line rooms ∷ count_line c.in_ok-stays.stays ∷ []) c.number_line-2.new.lines.rest in (
       record { some_night = omega (arith, nights.0, each); nights = omega (arith, nights.1, each); few_rooms = c.in_ok-exact_line.ensures.1.1; few_stays = count.1 },
       subst P (sym each) fourth,
     )

@@ -25,8 +25,8 @@ returns-in_err-word_line c =
     let Q : ℕ → Type 0 = λ n. GivesLines c.args.lines.now c.read_head.new.lines (head_lines rooms n) c.read_head.new.lines.rest in
     let R : List ℕ → Type 0 = λ r. AreStaysWithin (length r) stays in
     rw (p.1, p.2) (refused_at problem_lines IsProblem _ _ _ _ _ _ _ _
-      (stage_end rooms stays (subst P (sym counted) c.in_ok-head.ensures.0) (subst R same c.in_ok-stays.ensures.1))
-      (more_lines _ _ _ _ _ (subst Q (sym counted) c.in_ok-head.ensures.1) c.in_ok-stays.ensures.2) c.in_err-word_line.ensures)
+    (stage_end rooms stays (subst P (sym counted) c.in_ok-head.ensures.0) (subst R same c.in_ok-stays.ensures.1))
+    (more_lines _ _ _ _ _ (subst Q (sym counted) c.in_ok-head.ensures.1) c.in_ok-stays.ensures.2) c.in_err-word_line.ensures)
 
 pub returns : goal.returns
 returns c =
@@ -39,4 +39,4 @@ returns c =
     let R : List ℕ → Type 0 = λ r. AreStaysWithin (length r) stays in
     let T : Program → Type 0 = λ v. Spells problem_lines IsProblem c.args.lines.now c.word_line.new.lines v in
     subst T (sym c.within.ensures) (whole_problem rooms stays _ _ _ (subst P (sym counted) c.in_ok-head.ensures.0) (subst R same c.in_ok-stays.ensures.1)
-      (more_lines _ _ _ _ _ (subst Q (sym counted) c.in_ok-head.ensures.1) c.in_ok-stays.ensures.2) c.in_ok-word_line.ensures.2)
+    (more_lines _ _ _ _ _ (subst Q (sym counted) c.in_ok-head.ensures.1) c.in_ok-stays.ensures.2) c.in_ok-word_line.ensures.2)

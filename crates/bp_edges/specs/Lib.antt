@@ -1,0 +1,5 @@
+pub mod Counts
+pub mod Held
+pub mod Fetching
+pub mod Writing
+pub mod WriteError

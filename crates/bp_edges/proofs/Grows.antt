@@ -1,5 +1,5 @@
 -- A text that grows piece by piece.
-use Rattle.std.proofs.Common.{◌≡◌, ℕ, ◌+◌, ◌≤◌, List, [], ◌++◌, length, take, Option, Some, refl, sym, ap, ◌∙◌, append_assoc, length-append, arith}
+use Rattle.std.proofs.Common.{ℕ, ◌≤◌, List, [], ◌++◌, length, take, Option, Some, refl, sym, ap, ◌∙◌, append_assoc, length-append, arith}
 use Rattle.std.proofs.Math.Seq.{take-append-add, take-append_seam}
 use Rattle.std.proofs.lemmas.List.{take-append-le, take-take, length-take, append-nil}
 use Rattle.std.specs.Io.{StartsWith}
@@ -45,8 +45,8 @@ pub AppendedPrefix-append : {before middle now : Option (List ℕ)} (first secon
 AppendedPrefix-append first second a b =
     record {
       grown = λ text e.
-        let w = b.grown (text ++ first) (a.grown text e) in
-        (first ++ w.0, StartsWith-append_both first second w.0 w.1, w.2 ∙ ap Some (append_assoc text first w.0));
+          let w = b.grown (text ++ first) (a.grown text e) in
+          (first ++ w.0, StartsWith-append_both first second w.0 w.1, w.2 ∙ ap Some (append_assoc text first w.0));
     }
 
 -- a first part of what a text starts with is a first part of the text

@@ -1,5 +1,6 @@
 -- What a shelf holds, and what it remembers of its newest fetch.
-use Rattle.std.specs.Prelude.{ℕ, Bool, false, List, []}
+use Rattle.std.specs.Prelude.{ℕ, Bool, false, List, [], Option, None, Some, String, string_bytes}
+use Rattle.std.specs.declared.alloc.Global.{Global}
 use Rattle.std.specs.Ordering.{nat_cmp}
 use Rattle.std.specs.Cmp.Lexicographic.{slice_cmp}
 use Rattle.std.specs.FinMap.{FinMap}
@@ -17,3 +18,8 @@ pub record Fetch : Type 0 where
 -- what a new shelf remembers
 abbrev pub no_fetch : Fetch
 no_fetch = record { name = []; taken = 0; failed = false }
+
+-- the bytes of a name that may not be there yet
+abbrev pub name_bytes : Option (String Global) → List ℕ
+name_bytes None = []
+name_bytes (Some name) = string_bytes name

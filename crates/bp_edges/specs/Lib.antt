@@ -3,3 +3,5 @@ pub mod Held
 pub mod Fetching
 pub mod Writing
 pub mod WriteError
+pub mod Schedule
+pub mod Memory

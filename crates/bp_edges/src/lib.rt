@@ -2,9 +2,18 @@
 #![tactic(auto)]
 
 mod gate;
+mod held_file;
+mod memory_shelf;
+mod memory_sink;
+mod reading;
+mod schedule;
 mod shelf;
 mod sink;
+mod tally;
 
 pub use gate::{Gate, NoGate};
+pub use held_file::HeldFile;
+pub use memory_shelf::MemoryShelf;
+pub use memory_sink::MemorySink;
 pub use shelf::{Shelf, ShelfError};
 pub use sink::{Sink, SinkError, WriteError};

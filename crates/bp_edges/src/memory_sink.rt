@@ -1,0 +1,64 @@
+//! A sink in memory.
+ghost use Rattle.std.specs.Prelude.{◌≡◌, [], Some, OnErr, IsErrOf, ◌≤◌};
+ghost use Rattle.bp_edges.specs.Counts.{raised, Rose};
+ghost use Rattle.bp_edges.specs.Schedule.{NextFails, IsOver};
+ghost use Rattle.bp_edges.specs.Writing.{Writes};
+
+use crate::schedule::Schedule;
+use crate::{Sink, SinkError};
+use std::alloc::Global;
+use std::marker::Model;
+
+/// Keeps what is put, and fails at the calls that its list names, counted from 1.
+#[derive(Drop)]
+pub struct MemorySink {
+    written: Vec<u8>,
+    schedule: Schedule,
+    faults: u64,
+}
+
+impl Model for MemorySink {
+    ghost use Rattle.bp_edges.specs.Memory.{SinkState};
+
+    ghost Value = { SinkState };
+
+    ghost view = { λ s. record { written = s.written.items; schedule = s.schedule; faults = s.faults } };
+}
+
+impl MemorySink {
+    pub fn new(failing: Vec<u64>) -> MemorySink
+        ensures written { result.written ≡ [] }
+        ensures calls { result.schedule.calls ≡ 0 }
+        ensures failing { result.schedule.failing ≡ failing.items }
+        ensures faults { result.faults ≡ 0 }
+    {
+        MemorySink {
+            written: Vec::new(*failing.allocator()),
+            schedule: Schedule::new(failing),
+            faults: 0,
+        }
+    }
+
+    pub fn written(&self) -> &[u8]
+        ensures { result.now ≡ self.now.written }
+    {
+        &self.written
+    }
+}
+
+impl Sink for MemorySink {
+    ghost written = { λ s. Some s.written };
+
+    ghost faults = { λ s. s.faults };
+
+    ghost steady = { λ s. IsOver s.schedule };
+
+    fn put(&mut self, _alloc: Global, piece: &[u8]) -> Result<(), SinkError> {
+        if self.schedule.next_fails() {
+            self.faults = self.faults.saturating_add(1);
+            return Err(SinkError::Failed);
+        }
+        self.written.extend_from_slice(piece)?;
+        Ok(())
+    }
+}

@@ -1,7 +1,7 @@
 //! Which calls of an edge in memory fail.
 ghost use Rattle.std.specs.Prelude.{◌≡◌, ◌≤◌, ◌↔◌, IsTrue};
 ghost use Rattle.bp_edges.specs.Counts.{raised};
-ghost use Rattle.bp_edges.specs.Schedule.{NextFails, IsOver};
+ghost use Rattle.bp_edges.specs.Schedule.{NextFails, one_more};
 
 use std::marker::Model;
 
@@ -30,8 +30,9 @@ impl Schedule {
 
     /// Counts a call, and says whether it fails.
     pub fn next_fails(&mut self) -> bool
-        ensures fails { IsTrue result → NextFails self.old }
-        ensures over { IsOver self.old → IsOver self.new }
+        ensures fails { IsTrue result ↔ NextFails self.old }
+        ensures counted { self.new ≡ one_more self.old }
+        ensures later { self.old.calls ≤ self.new.calls }
     {
         if self.calls == u64::MAX {
             return false;

@@ -1,8 +1,9 @@
 -- A text that grows piece by piece.
-use Rattle.std.proofs.Common.{ℕ, ◌≤◌, List, [], ◌++◌, length, take, Option, Some, refl, sym, ap, ◌∙◌, append_assoc, length-append, arith}
+use Rattle.std.proofs.Common.{◌≡◌, ℕ, ◌≤◌, List, [], ◌++◌, length, take, drop, Option, None, Some, refl, sym, ap, ◌∙◌, append_assoc, length-append, arith}
 use Rattle.std.proofs.Math.Seq.{take-append-add, take-append_seam}
-use Rattle.std.proofs.lemmas.List.{take-append-le, take-take, length-take, append-nil}
+use Rattle.std.proofs.lemmas.List.{take-append-le, take-append-drop, take-take, length-take, append-nil}
 use Rattle.std.specs.Io.{StartsWith}
+use Rattle.std.specs.Io.KnownBytes.{Appends}
 use Rattle.bp_edges.specs.Writing.{Appended, AppendedPrefix}
 
 -- what a text starts with is no longer than it
@@ -65,3 +66,17 @@ pub Appended-prefix : {before now : Option (List ℕ)} (first second : List ℕ)
     → Appended before now first → AppendedPrefix before now (first ++ second)
 Appended-prefix first second a =
     record { grown = λ text e. (first, take-append_seam first second, a.grown text e) }
+
+none_is_some : (text : List ℕ) → None ≡ Some text → ⊥
+none_is_some text e = cc
+
+-- what a writer says of its bytes, as the same of a told text
+pub Appended-from : (before now : Option (List ℕ)) (piece : List ℕ) → Appends before now piece → Appended before now piece
+Appended-from None now piece h = record { grown = λ text e. absurd (none_is_some text e) }
+Appended-from (Some xs) None piece h = absurd h
+Appended-from (Some xs) (Some ys) piece h = record { grown = λ text e. let same : xs ≡ text = cc in ap Some h ∙ ap (λ l. Some (l ++ piece)) same }
+
+-- a first part, some more of the rest, and what is left then
+pub split_again : (part rest : List ℕ) (n : ℕ) → part ++ rest ≡ part ++ take n rest ++ drop n rest
+split_again part rest n =
+    ap (λ l. part ++ l) (sym (take-append-drop n rest)) ∙ sym (append_assoc part (take n rest) (drop n rest))

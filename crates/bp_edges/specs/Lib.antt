@@ -5,3 +5,4 @@ pub mod Writing
 pub mod WriteError
 pub mod Schedule
 pub mod Memory
+pub mod Reading

@@ -1,9 +1,11 @@
 //! A shelf in memory.
-ghost use Rattle.std.specs.Prelude.{◌≡◌, ◌+◌, ◌≤◌, ℕ, true, false, take, length, Some, IfOk, IsNone, IsSomeAnd};
-ghost use Rattle.std.specs.Option.{option_copied};
+ghost use Rattle.std.specs.Prelude.{◌≡◌, ◌⊎◌, ◌+◌, ◌≤◌, ℕ, true, false, [], take, length, Some, IfOk, IsErrOf, IsSome, IsNone, IsSomeAnd};
+ghost use Rattle.std.specs.Option.{option_copied, ForSome};
 ghost use Rattle.std.specs.FinMap as map;
 ghost use Rattle.bp_edges.specs.Held.{no_fetch};
-ghost use Rattle.bp_edges.specs.Schedule.{IsOver};
+ghost use Rattle.bp_edges.specs.Counts.{Rose};
+ghost use Rattle.bp_edges.specs.Fetching.{Answers, CountsFetch, Remembers};
+ghost use Rattle.bp_edges.specs.Schedule.{NextFails, IsOver, one_more};
 ghost use Rattle.bp_edges.specs.Memory.{files_of};
 
 use crate::reading::Reading;
@@ -36,6 +38,8 @@ impl MemoryShelf {
         ensures calls { result.schedule.calls ≡ 0 }
         ensures failing { result.schedule.failing ≡ failing.items }
         ensures tally { result.tally ≡ record { faults = 0; fetches = 0; last = no_fetch } }
+        ensures held { ⟦<MemoryShelf as Shelf>⟧.held result ≡ Some (files_of files.items) }
+        ensures steady { failing.items ≡ [] → ⟦<MemoryShelf as Shelf>⟧.steady result }
     {
         MemoryShelf {
             files,
@@ -76,7 +80,8 @@ fn read_held(
     limit: u64,
 ) -> Result<Reading, AllocError>
     ensures short { IfOk result (λ reading. length reading.bytes.items ≤ limit + 1) }
-    ensures failing { fails ≡ true → IfOk result (λ reading. (reading.failed ≡ true) × (length reading.bytes.items ≡ 0)) }
+    ensures failing { fails ≡ true → IfOk result (λ reading. reading.failed ≡ true) }
+    ensures nothing { IfOk result (λ reading. reading.failed ≡ true → length reading.bytes.items ≡ 0) }
     ensures absent { fails ≡ false → IfOk result (λ reading. reading.failed ≡ true → IsNone (map.get (files_of files.now) name.now)) }
     ensures read { IfOk result (λ reading. reading.failed ≡ false →
         IsSomeAnd (map.get (files_of files.now) name.now) (λ text. reading.bytes.items ≡ take (limit + 1) text)) }
@@ -104,7 +109,27 @@ impl Shelf for MemoryShelf {
 
     ghost steady = { λ s. IsOver s.schedule };
 
-    fn fetch(&mut self, alloc: Global, name: &str, limit: u64) -> Result<Vec<u8>, ShelfError> {
+    fn fetch(&mut self, alloc: Global, name: &str, limit: u64) -> Result<Vec<u8>, ShelfError>
+        ensures within { IfOk result (λ bytes. length bytes.items ≤ limit) }
+        ensures answers { ForSome (Some (files_of self.old.files)) (λ files. Answers (map.get files name.now) limit result) }
+
+        // It fails at the calls that the list names and at names that it does not hold, and takes nothing then.
+        ensures listed { NextFails self.old.schedule → IsErrOf result ShelfError.Failed ⊎ IsErrOf result ShelfError.Memory }
+        ensures failed_for { IsErrOf result ShelfError.Failed →
+            NextFails self.old.schedule ⊎ IsNone (map.get (files_of self.old.files) name.now) }
+        ensures none_taken { IsErrOf result ShelfError.Failed → self.new.tally.last.taken ≡ 0 }
+        ensures call { self.new.schedule ≡ one_more self.old.schedule }
+        ensures files { self.new.files ≡ self.old.files }
+
+        ensures failed { IsErrOf result ShelfError.Failed → Rose self.old.tally.faults self.new.tally.faults }
+        ensures unfailing { IsOver self.old.schedule → ForSome (Some (files_of self.old.files))
+            (λ files. IsSome (map.get files name.now) → ¬ IsErrOf result ShelfError.Failed) }
+        ensures steady { IsOver self.old.schedule → IsOver self.new.schedule }
+        ensures faults { self.old.tally.faults ≤ self.new.tally.faults }
+        ensures fetches { self.old.tally.fetches ≤ self.new.tally.fetches }
+        ensures counted { CountsFetch self.old.tally.fetches self.new.tally.fetches result }
+        ensures last { Remembers self.old.tally.last self.new.tally.last name.now limit result }
+    {
         let fails = self.schedule.next_fails();
         let copy = String::from_str(alloc, name)?;
         let reading = read_held(alloc, &self.files, fails, name, limit)?;

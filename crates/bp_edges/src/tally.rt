@@ -83,6 +83,7 @@ impl Tally {
         ensures within { IfOk result (λ bytes. length bytes.items ≤ limit) }
         ensures answers { (text : List ℕ) → reading.bytes.items ≡ take (limit + 1) text → Answers (Some text) limit result }
         ensures failed { IsErrOf result ShelfError.Failed ↔ (reading.failed ≡ true) }
+        ensures taken { IsErrOf result ShelfError.Failed → self.new.last.taken ≡ length reading.bytes.items }
         ensures memory { ¬ IsErrOf result ShelfError.Memory }
         ensures rose { IsErrOf result ShelfError.Failed → Rose self.old.faults self.new.faults }
         ensures faults { self.old.faults ≤ self.new.faults }

@@ -1,10 +1,10 @@
 -- A text that grows piece by piece.
-use Rattle.std.proofs.Common.{◌≡◌, ℕ, ◌≤◌, List, [], ◌++◌, length, take, drop, Option, None, Some, refl, sym, ap, ◌∙◌, append_assoc, length-append, arith}
+use Rattle.std.proofs.Common.{◌≡◌, ℕ, ◌≤◌, List, [], ◌++◌, length, take, drop, Option, None, Some, Result, Ok, Err, IsErr, refl, sym, ap, ◌∙◌, append_assoc, length-append, arith}
 use Rattle.std.proofs.Math.Seq.{take-append-add, take-append_seam}
 use Rattle.std.proofs.lemmas.List.{take-append-le, take-append-drop, take-take, length-take, append-nil}
 use Rattle.std.specs.Io.{StartsWith}
 use Rattle.std.specs.Io.KnownBytes.{Appends}
-use Rattle.bp_edges.specs.Writing.{Appended, AppendedPrefix}
+use Rattle.bp_edges.specs.Writing.{Appended, AppendedPrefix, Writes}
 
 -- what a text starts with is no longer than it
 length-StartsWith : (xs part : List ℕ) → StartsWith xs part → length part ≤ length xs
@@ -80,3 +80,9 @@ Appended-from (Some xs) (Some ys) piece h = record { grown = λ text e. let same
 pub split_again : (part rest : List ℕ) (n : ℕ) → part ++ rest ≡ part ++ take n rest ++ drop n rest
 split_again part rest n =
     ap (λ l. part ++ l) (sym (take-append-drop n rest)) ∙ sym (append_assoc part (take n rest) (drop n rest))
+
+-- a refused writer wrote a first part of its text
+pub Writes-refused : {E : Type 0} {before now : Option (List ℕ)} {piece : List ℕ} (result : Result (Unit {0}) E)
+    → IsErr result → AppendedPrefix before now piece → Writes before now piece result
+Writes-refused (Ok _) refused part = absurd (cc)
+Writes-refused (Err e) refused part = part

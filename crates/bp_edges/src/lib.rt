@@ -21,3 +21,6 @@ pub use memory_sink::MemorySink;
 pub use out_sink::OutSink;
 pub use shelf::{Shelf, ShelfError};
 pub use sink::{Sink, SinkError, WriteError};
+
+#[cfg(test)]
+mod tests;

@@ -23,7 +23,7 @@ impl<'a, R: Print> OutSink<'a, R> {
 }
 
 // Writes the whole piece, or fails after a first part of it.
-fn write_out<W: Write>(out: &mut W, piece: &[u8]) -> Result<(), SinkError>
+pub fn write_out<W: Write>(out: &mut W, piece: &[u8]) -> Result<(), SinkError>
     ensures writes { Writes (W.contents out.old) (W.contents out.new) piece.now result }
     ensures failed { IsOkUnless result SinkError.Failed }
 {

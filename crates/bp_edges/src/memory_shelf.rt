@@ -41,9 +41,10 @@ impl MemoryShelf {
         ensures held { ⟦<MemoryShelf as Shelf>⟧.held result ≡ Some (files_of files.items) }
         ensures steady { failing.items ≡ [] → ⟦<MemoryShelf as Shelf>⟧.steady result }
     {
+        let schedule = Schedule::new(failing);
         MemoryShelf {
             files,
-            schedule: Schedule::new(failing),
+            schedule,
             tally: Tally::new(),
         }
     }

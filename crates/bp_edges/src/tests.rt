@@ -5,57 +5,57 @@ use crate::out_sink::write_out;
 use crate::reading::read_up_to;
 use std::alloc::Global;
 use std::io::{ErrorKind, Read, Write};
-use std::process::Abort;
 use std::test::Fail;
 use std::{fs, io};
 
 const MIB_16: usize = 1 << 24;
 
-fn held(alloc: Global, name: &str, bytes: &[u8]) -> Result<HeldFile, ShelfError> {
-    Ok(HeldFile::new(
-        String::from_str(alloc, name)?,
-        Vec::from_slice(alloc, bytes)?,
-    ))
+fn held(alloc: Global, name: &str, text: &str) -> Result<HeldFile, ShelfError> {
+    let name = String::from_str(alloc, name)?;
+    let bytes = Vec::from_slice(alloc, text.as_bytes())?;
+    Ok(HeldFile::new(name, bytes))
 }
 
-// Fetches through the bound, and compares the answer.
-fn expect<S: Shelf>(
-    rt: &impl Abort,
-    alloc: Global,
+// Whether a fetch through the bound has this answer.
+fn answers<S: Shelf>(
     shelf: &mut S,
+    alloc: Global,
     name: &str,
     limit: u64,
     want: Result<&[u8], ShelfError>,
-) {
-    match (shelf.fetch(alloc, name, limit), want) {
-        (Ok(bytes), Ok(text)) => assert!(rt; bytes.as_slice() == text, "{name} up to {limit}"),
-        (Err(error), Err(cause)) => assert_eq!(rt; error, cause, "{name} up to {limit}"),
-        (Ok(_), Err(_)) => panic!(rt; "{name} up to {limit} was given"),
-        (Err(_), Ok(_)) => panic!(rt; "{name} up to {limit} was refused"),
+) -> bool {
+    match shelf.fetch(alloc, name, limit) {
+        Ok(bytes) => matches!(want, Ok(text) if bytes.as_slice() == text),
+        Err(error) => matches!(want, Err(cause) if error == cause),
     }
 }
 
 #[test]
 fn a_shelf_in_memory_fails_where_it_is_told_to(rt: HostRuntime) -> Result<(), Fail> {
     let alloc = rt.alloc();
-    let files = vec![in alloc;
-        held(alloc, "a", b"one")?,
-        held(alloc, "b", b"two two")?,
-        held(alloc, "a", b"another")?,
-    ]?;
-    let mut shelf = MemoryShelf::new(files, vec![in alloc; 2, 5]?);
-    let calls: [(&str, u64, Result<&[u8], ShelfError>); 8] = [
-        ("a", 100, Ok(b"one")),
+    let mut files = Vec::new(alloc);
+    for (name, text) in [("a", "one"), ("b", "two two"), ("a", "another")] {
+        files.push(held(alloc, name, text)?)?;
+    }
+    let mut shelf = MemoryShelf::new(files, [2, 5].to_vec(alloc)?);
+    for (name, limit, want) in [
+        ("a", 100, Ok("one")),
         ("a", 100, Err(ShelfError::Failed)),
-        ("a", 3, Ok(b"one")),
+        ("a", 3, Ok("one")),
         ("a", 2, Err(ShelfError::TooLong)),
         ("b", 100, Err(ShelfError::Failed)),
         ("c", 100, Err(ShelfError::Failed)),
         ("b", 6, Err(ShelfError::TooLong)),
-        ("b", 7, Ok(b"two two")),
-    ];
-    for (name, limit, want) in calls {
-        expect(&rt, alloc, &mut shelf, name, limit, want);
+        ("b", 7, Ok("two two")),
+    ] {
+        let same = answers(
+            &mut shelf,
+            alloc,
+            name,
+            limit,
+            want.map(|text: &str| text.as_bytes()),
+        );
+        assert!(rt; same, "{name} up to {limit}");
     }
     Ok(())
 }
@@ -63,16 +63,15 @@ fn a_shelf_in_memory_fails_where_it_is_told_to(rt: HostRuntime) -> Result<(), Fa
 #[test]
 fn a_sink_in_memory_fails_where_it_is_told_to(rt: HostRuntime) -> Result<(), Fail> {
     let alloc = rt.alloc();
-    let mut sink = MemorySink::new(vec![in alloc; 2, 4]?);
-    let calls: [(&[u8], Result<(), SinkError>); 5] = [
-        (b"ab", Ok(())),
-        (b"cd", Err(SinkError::Failed)),
-        (b"", Ok(())),
-        (b"ef", Err(SinkError::Failed)),
-        (b"gh", Ok(())),
-    ];
-    for (piece, want) in calls {
-        assert_eq!(rt; sink.put(alloc, piece), want);
+    let mut sink = MemorySink::new([2, 4].to_vec(alloc)?);
+    for (piece, want) in [
+        ("ab", Ok(())),
+        ("cd", Err(SinkError::Failed)),
+        ("", Ok(())),
+        ("ef", Err(SinkError::Failed)),
+        ("gh", Ok(())),
+    ] {
+        assert_eq!(rt; sink.put(alloc, piece.as_bytes()), want, "{piece}");
     }
     assert_eq!(rt; sink.written(), b"abgh".as_slice());
     Ok(())
@@ -81,21 +80,23 @@ fn a_sink_in_memory_fails_where_it_is_told_to(rt: HostRuntime) -> Result<(), Fai
 #[test]
 fn a_real_file_of_the_limit_and_of_one_byte_more(rt: HostRuntime) -> Result<(), Fail> {
     let alloc = rt.alloc();
-    let mut text = vec![in alloc; 7u8; MIB_16]?;
-    text[0] = 1;
-    text[MIB_16 - 1] = 2;
+    let mut text = vec![in alloc; 7u8; MIB_16 - 1]?;
+    text.push(9)?;
     fs::write(&rt, "long-text", text.as_slice())?;
     let mut shelf = FileShelf::new(&rt);
-    let calls: [(&str, u64, Result<&[u8], ShelfError>); 4] = [
+    for (name, limit, want) in [
         ("long-text", 1 << 24, Ok(text.as_slice())),
         ("long-text", (1 << 24) - 1, Err(ShelfError::TooLong)),
         ("no-such-file", 1 << 24, Err(ShelfError::Failed)),
         ("long-text", u64::MAX, Ok(text.as_slice())),
-    ];
-    for (name, limit, want) in calls {
-        expect(&rt, alloc, &mut shelf, name, limit, want);
+    ] {
+        assert!(rt;
+            answers(&mut shelf, alloc, name, limit, want),
+            "{name} up to {limit}"
+        );
     }
-    Ok(fs::remove_file(&rt, "long-text")?)
+    fs::remove_file(&rt, "long-text")?;
+    Ok(())
 }
 
 #[test]

@@ -16,64 +16,71 @@ fn held(alloc: Global, name: &str, text: &str) -> Result<HeldFile, ShelfError> {
     Ok(HeldFile::new(name, bytes))
 }
 
-// Whether a fetch through the bound has this answer.
-fn answers<S: Shelf>(
-    shelf: &mut S,
-    alloc: Global,
-    name: &str,
-    limit: u64,
-    want: Result<&[u8], ShelfError>,
-) -> bool {
+const FAILED: &str = "(failed)";
+
+const TOO_LONG: &str = "(too long)";
+
+// Whether a fetch through the bound gives this text, or the refusal that it names.
+fn gives<S: Shelf>(shelf: &mut S, alloc: Global, name: &str, limit: u64, want: &[u8]) -> bool {
     match shelf.fetch(alloc, name, limit) {
-        Ok(bytes) => matches!(want, Ok(text) if bytes.as_slice() == text),
-        Err(error) => matches!(want, Err(cause) if error == cause),
+        Ok(bytes) => bytes.as_slice() == want,
+        Err(ShelfError::Failed) => want == FAILED.as_bytes(),
+        Err(ShelfError::TooLong) => want == TOO_LONG.as_bytes(),
+        Err(ShelfError::Memory) => false,
     }
 }
+
+const FILES: [(&str, &str); 3] = [("a", "one"), ("b", "two two"), ("a", "another")];
+
+// The name and the limit of each fetch, and what it gives. The second and the fifth are to fail.
+const FETCHES: [(&str, u64, &str); 8] = [
+    ("a", 100, "one"),
+    ("a", 100, FAILED),
+    ("a", 3, "one"),
+    ("a", 2, TOO_LONG),
+    ("b", 100, FAILED),
+    ("c", 100, FAILED),
+    ("b", 6, TOO_LONG),
+    ("b", 7, "two two"),
+];
 
 #[test]
 fn a_shelf_in_memory_fails_where_it_is_told_to(rt: HostRuntime) -> Result<(), Fail> {
     let alloc = rt.alloc();
     let mut files = Vec::new(alloc);
-    for (name, text) in [("a", "one"), ("b", "two two"), ("a", "another")] {
+    for (name, text) in &FILES {
         files.push(held(alloc, name, text)?)?;
     }
     let mut shelf = MemoryShelf::new(files, [2, 5].to_vec(alloc)?);
-    for (name, limit, want) in [
-        ("a", 100, Ok("one")),
-        ("a", 100, Err(ShelfError::Failed)),
-        ("a", 3, Ok("one")),
-        ("a", 2, Err(ShelfError::TooLong)),
-        ("b", 100, Err(ShelfError::Failed)),
-        ("c", 100, Err(ShelfError::Failed)),
-        ("b", 6, Err(ShelfError::TooLong)),
-        ("b", 7, Ok("two two")),
-    ] {
-        let same = answers(
-            &mut shelf,
-            alloc,
-            name,
-            limit,
-            want.map(|text: &str| text.as_bytes()),
+    for (name, limit, want) in &FETCHES {
+        assert!(rt;
+            gives(&mut shelf, alloc, name, *limit, want.as_bytes()),
+            "{name} up to {limit}"
         );
-        assert!(rt; same, "{name} up to {limit}");
     }
     Ok(())
 }
+
+// Each piece, and whether it is taken. The second and the fourth put are to fail.
+const PUTS: [(&str, bool); 5] = [
+    ("ab", true),
+    ("cd", false),
+    ("", true),
+    ("ef", false),
+    ("gh", true),
+];
 
 #[test]
 fn a_sink_in_memory_fails_where_it_is_told_to(rt: HostRuntime) -> Result<(), Fail> {
     let alloc = rt.alloc();
     let mut sink = MemorySink::new([2, 4].to_vec(alloc)?);
-    for (piece, want) in [
-        ("ab", Ok(())),
-        ("cd", Err(SinkError::Failed)),
-        ("", Ok(())),
-        ("ef", Err(SinkError::Failed)),
-        ("gh", Ok(())),
-    ] {
-        assert_eq!(rt; sink.put(alloc, piece.as_bytes()), want, "{piece}");
+    for (piece, taken) in &PUTS {
+        assert!(rt;
+            sink.put(alloc, piece.as_bytes()).is_ok() == *taken,
+            "{piece}"
+        );
     }
-    assert_eq!(rt; sink.written(), b"abgh".as_slice());
+    assert!(rt; sink.written() == b"abgh".as_slice());
     Ok(())
 }
 
@@ -84,17 +91,29 @@ fn a_real_file_of_the_limit_and_of_one_byte_more(rt: HostRuntime) -> Result<(), 
     text.push(9)?;
     fs::write(&rt, "long-text", text.as_slice())?;
     let mut shelf = FileShelf::new(&rt);
-    for (name, limit, want) in [
-        ("long-text", 1 << 24, Ok(text.as_slice())),
-        ("long-text", (1 << 24) - 1, Err(ShelfError::TooLong)),
-        ("no-such-file", 1 << 24, Err(ShelfError::Failed)),
-        ("long-text", u64::MAX, Ok(text.as_slice())),
-    ] {
-        assert!(rt;
-            answers(&mut shelf, alloc, name, limit, want),
-            "{name} up to {limit}"
-        );
-    }
+    let limit = 1 << 24;
+    assert!(rt;
+        gives(&mut shelf, alloc, "long-text", limit, &text),
+        "a file of the limit"
+    );
+    assert!(rt;
+        gives(
+            &mut shelf,
+            alloc,
+            "long-text",
+            limit - 1,
+            TOO_LONG.as_bytes()
+        ),
+        "one byte more"
+    );
+    assert!(rt;
+        gives(&mut shelf, alloc, "no-such-file", limit, FAILED.as_bytes()),
+        "an absent file"
+    );
+    assert!(rt;
+        gives(&mut shelf, alloc, "long-text", u64::MAX, &text),
+        "no limit"
+    );
     fs::remove_file(&rt, "long-text")?;
     Ok(())
 }
@@ -102,7 +121,7 @@ fn a_real_file_of_the_limit_and_of_one_byte_more(rt: HostRuntime) -> Result<(), 
 #[test]
 fn standard_output_takes_a_piece(rt: HostRuntime) {
     let mut sink = OutSink::new(&rt);
-    assert_eq!(rt; sink.put(rt.alloc(), b"a piece\n"), Ok(()));
+    assert!(rt; sink.put(rt.alloc(), b"a piece\n").is_ok());
 }
 
 // Moves a byte at a time, and then fails or ends.
@@ -151,32 +170,41 @@ impl Write for ByteByByte {
     }
 }
 
+// How many bytes are left, whether an error follows, the limit, what is read, and whether reading went wrong.
+const READS: [(u8, bool, u64, &[u8], bool); 4] = [
+    (3, false, 9, b"\x02\x01\x00", false),
+    (3, true, 9, b"\x02\x01\x00", true),
+    (9, true, 1, b"\x08\x07", false),
+    (0, true, 9, b"", true),
+];
+
 #[test]
 fn reading_byte_by_byte(rt: HostRuntime) -> Result<(), Fail> {
-    let alloc = rt.alloc();
-    let cases: [(u8, bool, u64, &[u8], bool); 4] = [
-        (3, false, 9, b"\x02\x01\x00", false),
-        (3, true, 9, b"\x02\x01\x00", true),
-        (9, true, 1, b"\x08\x07", false),
-        (0, false, 9, b"", false),
-    ];
-    for (left, fails, limit, want, failed) in cases {
-        let reading = read_up_to(alloc, &mut ByteByByte { left, fails }, limit)?;
-        assert_eq!(rt; reading.bytes.as_slice(), want);
-        assert_eq!(rt; reading.failed, failed);
+    for (left, fails, limit, want, failed) in &READS {
+        let mut file = ByteByByte {
+            left: *left,
+            fails: *fails,
+        };
+        let reading = read_up_to(rt.alloc(), &mut file, *limit)?;
+        assert!(rt; reading.bytes.as_slice() == *want);
+        assert!(rt;
+            reading.failed == (*fails && file.left == 0 && reading.bytes.len() as u64 <= *limit)
+        );
     }
     Ok(())
 }
 
+// How many bytes go out, whether an error follows, and whether three bytes are written.
+const WRITES: [(u8, bool, bool); 3] = [(3, true, true), (2, false, false), (2, true, false)];
+
 #[test]
 fn writing_byte_by_byte(rt: HostRuntime) {
-    let cases = [
-        (3, false, Ok(())),
-        (2, false, Err(SinkError::Failed)),
-        (2, true, Err(SinkError::Failed)),
-    ];
-    for (left, fails, want) in cases {
-        assert_eq!(rt; write_out(&mut ByteByByte { left, fails }, b"abc"), want);
+    for (left, fails, written) in &WRITES {
+        let mut out = ByteByByte {
+            left: *left,
+            fails: *fails,
+        };
+        assert!(rt; write_out(&mut out, b"abc").is_ok() == *written);
     }
 }
 

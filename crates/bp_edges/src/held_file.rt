@@ -27,13 +27,13 @@ impl HeldFile {
         HeldFile { name, bytes }
     }
 
-    pub fn name(&self) -> &str
+    pub(crate) fn name(&self) -> &str
         ensures { result.now ≡ self.now.name }
     {
         self.name.as_str()
     }
 
-    pub fn bytes(&self) -> &[u8]
+    pub(crate) fn bytes(&self) -> &[u8]
         ensures { result.now ≡ self.now.bytes }
     {
         &self.bytes

@@ -8,7 +8,7 @@ mod problem_text;
 mod text_error;
 mod verdict;
 
-pub use certificate_text::read_certificate;
+pub use certificate_text::{read_certificate, write_certificate};
 pub use problem_text::read_problem;
 pub use text_error::TextError;
 pub use verdict::{Verdict, check};

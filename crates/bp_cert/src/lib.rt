@@ -2,6 +2,7 @@
 #![tactic(auto)]
 
 mod certificate_text;
+pub mod law;
 pub mod lines;
 mod loads;
 mod problem_text;

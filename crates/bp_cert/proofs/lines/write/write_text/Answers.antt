@@ -1,4 +1,4 @@
-use Rattle.std.proofs.Common.{◌≡◌, ℕ, List, ◌++◌, take, drop, subst, sym, ap, ◌∙◌, arith}
+use Rattle.std.proofs.Common.{◌≡◌, ℕ, List, ◌++◌, drop, subst, sym, ap, ◌∙◌, arith}
 use Rattle.bp_edges.specs.Writing.{AppendedPrefix}
 use Rattle.bp_edges.proofs.Grows.{Appended-append, AppendedPrefix-append, AppendedPrefix-longer, Writes-refused, split_again}
 use Rattle.bp_cert.proofs.lines.write.write_text.Goals as goal

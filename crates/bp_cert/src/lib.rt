@@ -6,6 +6,8 @@ pub mod law;
 pub mod lines;
 mod loads;
 mod problem_text;
+#[cfg(test)]
+mod tests;
 mod text_error;
 mod verdict;
 

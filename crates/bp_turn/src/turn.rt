@@ -1,0 +1,143 @@
+// The lock, and the calls that take a turn or look at the length.
+ghost use Rattle.std.specs.Prelude.{◌≡◌, ◌%◌, ◌^◌, ◌<◌, ◌≤◌, true, false, [], ◌∷◌, ◌++◌, length, IfOk, Some, All};
+ghost use Rattle.bp_turn.specs.Plays.{Took};
+ghost use Rattle.bp_turn.specs.Prefix.{IsPrefix};
+ghost use Rattle.bp_turn.specs.Seat.{first_seat};
+
+use crate::board::{Board, LENGTH, Place, SERVING, TICKET};
+use crate::plays::{Call, Draw, Give, Log, Look};
+use crate::seat::TurnSeat;
+use crate::story::Story;
+use atomic_table::Table;
+use std::alloc::Global;
+use std::marker::Model;
+use std::snapshot::Snapshot;
+use std::sync::Wait;
+
+/// There was no memory.
+#[derive(Clone, Copy, PartialEq, Eq, Debug)]
+pub struct Memory;
+
+/// A ticket lock over a value whose story only grows. Contracts see which lock it is, and seats name it by that.
+#[derive(Drop)]
+pub struct Turn<B: Story> {
+    pub(crate) board: Board<B>,
+}
+
+impl<B: Story> Model for Turn<B> {
+    ghost use Rattle.std.specs.Prelude.{◌≡◌};
+    ghost use Rattle.atomic_table.specs.Seated.{TableId, table_id_coded};
+
+    ghost Value = { TableId };
+
+    ghost coded = { table_id_coded };
+
+    ghost view = { λ t. t.board.shared.table_id };
+
+    ghost invariant = { λ t. (t.board.shared.table_id.words ≡ 3) × (t.board.shared.table_id.slots ≡ 1) };
+}
+
+impl<B: Story + Drop> Turn<B> {
+    /// A lock over the value, and its first seat, which has the number 0 and may hand out 1 to 63. Without memory the value is dropped.
+    pub fn new(alloc: Global, value: B) -> Result<(Turn<B>, TurnSeat<B>), Memory>
+        requires { All (λ (e : B.Entry). B.caller e ≡ 0) (B.story value) }
+        ensures { IfOk result (λ r. r.1 ≡ first_seat r.0 (B.fixed value) (B.story value)) }
+    {
+        let length = value.length();
+        let about = Snapshot::of(&value);
+        let mut slots = Vec::new(alloc);
+        let Ok(()) = slots.push(Some(value)) else {
+            return Err(Memory);
+        };
+        match Table::new(alloc, &[length, 0, 0], slots, &about) {
+            Ok((board, place)) => Ok((Turn { board }, TurnSeat { place })),
+            Err(_) => Err(Memory),
+        }
+    }
+}
+
+impl<B: Story> Turn<B> {
+    /// Waits for the seat's turn, and takes the value. A thread that waits sleeps until some turn ends.
+    pub fn take<R: Wait>(&self, rt: &R, seat: &mut TurnSeat<B>) -> B
+        requires lock { seat.old.lock ≡ self.now }
+        requires idle { seat.old.has_turn ≡ false }
+        ensures fixed { seat.old.fixed ≡ Some (B.fixed result) }
+        ensures begins { IsPrefix seat.old.seen (B.story result) }
+        ensures seat { seat.new ≡ record seat.old { seen = B.story result; has_turn = true; turns = seat.old.turns ++ length (B.story result) ∷ [] } }
+    {
+        let ticket = self
+            .board
+            .shared
+            .fetch_add::<Draw>(&mut seat.place, TICKET, 1);
+        self.wait(rt, &mut seat.place, ticket);
+        match self.board.shared.exchange(&mut seat.place, 0, None) {
+            Some(value) => value,
+            None => unreachable!(),
+        }
+    }
+
+    /// Gives the value back with the story that was taken, and ends the turn.
+    pub fn give(&self, seat: &mut TurnSeat<B>, value: B)
+        requires lock { seat.old.lock ≡ self.now }
+        requires turn { seat.old.has_turn ≡ true }
+        requires fixed { seat.old.fixed ≡ Some (B.fixed value) }
+        requires story { B.story value ≡ seat.old.seen }
+        ensures { seat.new ≡ record seat.old { has_turn = false } }
+    {
+        let empty = self.board.shared.exchange(&mut seat.place, 0, Some(value));
+        let None = empty else { unreachable!() };
+        self.board
+            .shared
+            .fetch_add::<Give>(&mut seat.place, SERVING, 1);
+        self.board.shared.wake_all(SERVING);
+    }
+
+    /// Gives the value back with one entry more, which the seat made, and ends the turn. The one atomic step that raises the length makes the entry part of the history.
+    pub fn give_logged(&self, seat: &mut TurnSeat<B>, value: B)
+        requires lock { seat.old.lock ≡ self.now }
+        requires turn { seat.old.has_turn ≡ true }
+        requires fixed { seat.old.fixed ≡ Some (B.fixed value) }
+        requires story { (e : B.Entry) × (B.story value ≡ seat.old.seen ++ e ∷ []) × (B.caller e ≡ seat.old.number) }
+        ensures { (e : B.Entry) → B.story value ≡ seat.old.seen ++ e ∷ [] → seat.new ≡ record seat.old { seen = seat.old.seen ++ e ∷ []; own = seat.old.own ++ e ∷ []; has_turn = false } }
+    {
+        let _length = value.length();
+        // The value goes back into the slot before the step on the length, since that step reads the entry there. The seat holds the slot until the next ticket is served, so no other thread can touch it in between.
+        let empty = self.board.shared.exchange(&mut seat.place, 0, Some(value));
+        let None = empty else { unreachable!() };
+        self.board
+            .shared
+            .fetch_add::<Log>(&mut seat.place, LENGTH, 1);
+        self.board
+            .shared
+            .fetch_add::<Give>(&mut seat.place, SERVING, 1);
+        self.board.shared.wake_all(SERVING);
+    }
+
+    /// The length of the history at this moment, found without a turn and without waiting.
+    pub fn peek(&self, seat: &mut TurnSeat<B>) -> u64
+        requires { seat.old.lock ≡ self.now }
+        ensures seat { seat.new ≡ record seat.old { looks = seat.old.looks ++ result ∷ [] } }
+        ensures least { length seat.old.seen ≤ result }
+    {
+        self.board.shared.load::<Look>(&mut seat.place, LENGTH)
+    }
+
+    // Sleeps until the ticket is served, and has the value then. `give` wakes all that sleep here.
+    fn wait<R: Wait>(&self, rt: &R, place: &mut Place<B>, ticket: u64)
+        requires lock { place.old.table_id ≡ self.now }
+        requires ticket { (place.old.me.0.number < 64) × (place.old.me.0.has_ticket ≡ true) × (place.old.me.0.has_turn ≡ false) × (ticket ≡ place.old.me.0.ticket % 2 ^ 64) }
+        ensures place { (place.new.table_id ≡ place.old.table_id) × (place.new.id ≡ place.old.id) }
+        ensures took { Took B.fixed B.story B.caller place.old.me place.new.me }
+    {
+        for _ in rt.forever() {
+            let serving = self.board.shared.load::<Call>(place, SERVING);
+            if serving == ticket {
+                return;
+            }
+            self.board
+                .shared
+                .park(rt, SERVING, (serving & 0xffff_ffff) as u32);
+        }
+        unreachable!()
+    }
+}

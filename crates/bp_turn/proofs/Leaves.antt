@@ -1,5 +1,5 @@
 -- A seat gives the slot back and ends its turn.
-use Rattle.std.proofs.Common.{◌≡◌, ◌≢◌, ℕ, ◌+◌, ◌%◌, ◌^◌, ◌<◌, ◌≤◌, true, false, List, [], ◌∷◌, length, set, get_or, Option, Some, sym, refl, ap, ◌∙◌, subst, inr, ⊎_elim, arith}
+use Rattle.std.proofs.Common.{◌≡◌, ◌≢◌, ℕ, ◌+◌, ◌%◌, ◌^◌, ◌<◌, true, false, List, [], ◌∷◌, length, set, get_or, Option, Some, sym, refl, ap, ◌∙◌, subst, inr, ⊎_elim, arith}
 use mathlib.Core.Option.{some, none}
 use mathlib.Core.Option as maybe
 use lib.ListN.{get_elem?}
@@ -8,7 +8,7 @@ use Rattle.std.proofs.lemmas.List.Elements.{All-weaker}
 use Rattle.atomic_table.specs.Table.{State, gives, step, stepped, Allows}
 use Rattle.bp_turn.specs.declared.board.View.{View}
 use Rattle.bp_turn.specs.Plays.{Sat, Gave}
-use Rattle.bp_turn.specs.Rule.{logs, hands_out, Past, Fits, IsFree, FollowsRule, HasPart}
+use Rattle.bp_turn.specs.Rule.{hands_out, Past, Fits, IsFree, FollowsRule, HasPart}
 use Rattle.bp_turn.specs.Views.{view_after_turn}
 use Rattle.bp_turn.proofs.Changed.{one_set, still_there}
 use Rattle.bp_turn.proofs.Numbers.{but, but_here, but_else, count_off, wraps}

@@ -9,7 +9,7 @@ use Rattle.bp_turn.specs.declared.board.View.{View}
 use Rattle.bp_turn.specs.Callers.{entries_by}
 use Rattle.bp_turn.specs.Plays.{Sat, Logged}
 use Rattle.bp_turn.specs.Prefix.{IsPrefix}
-use Rattle.bp_turn.specs.Rule.{logs, hands_out, keeps_ended, Past, Fits, IsFree, IsEnded, FollowsRule, HasPart}
+use Rattle.bp_turn.specs.Rule.{hands_out, keeps_ended, Past, Fits, IsFree, IsEnded, FollowsRule, HasPart}
 use Rattle.bp_turn.specs.Seat.{IsSoundView}
 use Rattle.bp_turn.specs.Views.{view_with_entry}
 use Rattle.bp_turn.proofs.Changed.{at_there, one_set, still_there, still_out}

@@ -1,5 +1,5 @@
 -- A seat looks at the length, or notes which number it hands out next. Neither changes what the table shows.
-use Rattle.std.proofs.Common.{◌≡◌, ℕ, ◌≤◌, eqb, true, List, [], ◌∷◌, length, get_or, Option, sym, refl, ap, ◌∙◌, subst, inl, inr, ⊎_elim, arith}
+use Rattle.std.proofs.Common.{◌≡◌, ℕ, eqb, true, List, get_or, Option, sym, refl, ap, ◌∙◌, subst, inl, inr, ⊎_elim, arith}
 use mathlib.Core.Option.{some, none}
 use prog.Atomic.{either}
 use lib.ListN.{get_elem?}

@@ -1,16 +1,16 @@
 -- The rule holds of a new table.
-use Rattle.std.proofs.Common.{◌≡◌, ◌≢◌, ℕ, zero, suc, ◌+◌, ◌<◌, ◌≤◌, false, List, [], ◌∷◌, length, Option, Some, sym, refl, ap, subst, inr, arith}
+use Rattle.std.proofs.Common.{◌≡◌, ℕ, zero, suc, ◌+◌, ◌<◌, ◌≤◌, false, List, [], ◌∷◌, length, Some, sym, refl, ap, subst, inr, arith}
 use mathlib.Core.Option.{some, some-injective, some-ne-none}
 use mathlib.Core.Logic.{dite}
 use native.Mathlib.Decide.{ℕ_discrete}
 use lib.ListN.{get_elem?}
 use Rattle.std.specs.List.{All}
 use Rattle.std.proofs.lemmas.List.Elements.{All-nil, All-weaker}
-use Rattle.atomic_table.specs.Table.{State, opening}
+use Rattle.atomic_table.specs.Table.{opening}
 use Rattle.bp_turn.specs.declared.board.View.{View}
 use Rattle.bp_turn.specs.Callers.{numbers_from}
 use Rattle.bp_turn.specs.Rule.{Part, logs, hands_out, Past, Fits, FollowsRule, IsFree, IsEnded, HasPart, There}
-use Rattle.bp_turn.specs.Seat.{IsAtRest, IsSoundView}
+use Rattle.bp_turn.specs.Seat.{IsAtRest}
 use Rattle.bp_turn.specs.Views.{first_view}
 use Rattle.bp_turn.proofs.Entries.{all_of, none_of}
 use Rattle.bp_turn.proofs.Numbers.{but, but_here, but_else, count_none, run_between, run_contains}

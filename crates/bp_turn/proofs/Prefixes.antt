@@ -1,5 +1,5 @@
 -- Prefixes of lists, and the longer of two.
-use Rattle.std.proofs.Common.{◌≡◌, ℕ, ◌<◌, ◌≤◌, nat_lt, cond, true, false, List, [], ◌∷◌, ◌++◌, length, ◌⊎◌, sym, refl, ap, ◌∙◌, subst, ⊎_elim, ltb-true, ltb-false, arith, append-nil, append_assoc, length-append}
+use Rattle.std.proofs.Common.{◌≡◌, ◌<◌, ◌≤◌, nat_lt, cond, true, false, List, [], ◌∷◌, ◌++◌, length, ◌⊎◌, sym, refl, ap, ◌∙◌, subst, ⊎_elim, ltb-true, ltb-false, arith, append-nil, append_assoc, length-append}
 use mathlib.Core.Logic.{dite}
 use native.Mathlib.Decide.{dec_le}
 use Rattle.bp_turn.specs.Prefix.{IsPrefix, longer, shorter}

@@ -1,18 +1,18 @@
 -- A new seat gets a number of another, or a seat makes a note of what it has seen.
-use Rattle.std.proofs.Common.{◌≡◌, ◌≢◌, ◌⊎◌, ℕ, ◌<◌, ◌≤◌, true, false, List, [], ◌∷◌, ◌++◌, length, set, Option, sym, refl, ap, ◌∙◌, subst, inl, inr, ⊎_elim, length-set, arith}
+use Rattle.std.proofs.Common.{◌≡◌, ◌≢◌, ℕ, ◌<◌, ◌≤◌, true, false, List, [], ◌∷◌, ◌++◌, length, set, Option, sym, refl, ap, ◌∙◌, subst, inl, inr, ⊎_elim, length-set, arith}
 use mathlib.Core.Option.{some}
 use mathlib.Core.Logic.{dite}
 use native.Mathlib.Decide.{ℕ_discrete}
 use lib.ListN.{get_elem?}
 use Rattle.std.specs.List.{All, Contains}
-use Rattle.std.proofs.lemmas.List.Elements.{All-nil, All-weaker, All-contains, All-filter}
+use Rattle.std.proofs.lemmas.List.Elements.{All-nil, All-weaker, All-contains}
 use Rattle.atomic_table.specs.Table.{State, Splits}
 use Rattle.atomic_table.proofs.Lists.{at_last, set_again}
 use Rattle.bp_turn.specs.declared.board.View.{View}
 use Rattle.bp_turn.specs.Callers.{entries_by, without}
 use Rattle.bp_turn.specs.Plays.{Sat}
-use Rattle.bp_turn.specs.Rule.{Part, logs, hands_out, keeps_ended, Past, Fits, IsFree, IsEnded, FollowsRule, HasPart, There, SomeHasTurn, NoneHasTurn}
-use Rattle.bp_turn.specs.Seat.{IsAtRest, IsSoundView}
+use Rattle.bp_turn.specs.Rule.{Part, logs, hands_out, keeps_ended, Past, Fits, IsFree, IsEnded, FollowsRule, HasPart, There}
+use Rattle.bp_turn.specs.Seat.{IsAtRest}
 use Rattle.bp_turn.specs.Views.{view_with_choice, view_less_choice, newcomer, note}
 use Rattle.bp_turn.proofs.Changed.{one_set, one_more_view, still_there, there_longer, still_out, still_in}
 use Rattle.bp_turn.proofs.Entries.{none_before}

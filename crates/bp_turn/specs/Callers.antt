@@ -1,5 +1,5 @@
 -- Callers' numbers, and the entries of one caller.
-use Rattle.std.specs.Prelude.{◌≡◌, ℕ, zero, suc, ◌==◌, not, List, [], ◌∷◌, filter}
+use Rattle.std.specs.Prelude.{ℕ, zero, suc, ◌==◌, not, List, [], ◌∷◌, filter}
 
 -- the entries of the caller with the number n, in order
 abbrev pub entries_by : {E : Type 0} → (E → ℕ) → ℕ → List E → List E

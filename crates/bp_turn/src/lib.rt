@@ -8,7 +8,6 @@ mod seats;
 mod story;
 mod turn;
 
-pub use board::View;
 pub use seat::TurnSeat;
 pub use story::Story;
 pub use turn::{Memory, Turn};

@@ -30,16 +30,19 @@ impl<B: Story> Turn<B> {
         self.board
             .shared
             .compare_exchange::<Choose>(&mut seat.place, LENGTH, number, number);
-        Ok(TurnSeat {
-            place: self.board.shared.split_seat::<Newcomer>(&mut seat.place),
-        })
+        let place = self.board.shared.split_seat::<Newcomer>(&mut seat.place);
+        Ok(TurnSeat { place })
     }
 
     /// Ends the other seat in this one, which keeps its numbers and the entries under them.
     pub fn join(&self, seat: &mut TurnSeat<B>, other: TurnSeat<B>)
         requires lock { (seat.old.lock ≡ self.now) × (other.lock ≡ self.now) }
         requires idle { (seat.old.has_turn ≡ false) × (other.has_turn ≡ false) }
-        ensures seat { seat.new ≡ record seat.old { seen = longer seat.old.seen other.seen; free = seat.old.free ++ other.free; ended = seat.old.ended ++ (other.number, other.own) ∷ other.ended } }
+        ensures seat { seat.new ≡ record seat.old {
+          seen = longer seat.old.seen other.seen;
+          free = seat.old.free ++ other.free;
+          ended = seat.old.ended ++ (other.number, other.own) ∷ other.ended;
+        } }
         ensures begins { IsPrefix seat.old.seen seat.new.seen × IsPrefix other.seen seat.new.seen }
         ensures fixed { other.fixed ≡ seat.old.fixed }
     {
@@ -74,10 +77,14 @@ impl<B: Story> Turn<B> {
         requires lock { (place.old.table_id ≡ self.now) × (told.table_id ≡ self.now) }
         requires idle { place.old.me.0.has_turn ≡ false }
         requires note { IsNote told.me }
-        ensures place { (place.new.table_id ≡ place.old.table_id) × (place.new.id ≡ place.old.id) × (place.new.me ≡ (view_told place.old.me.0 told.me.0, place.old.me.1)) }
-        ensures begins { IsPrefix place.old.me.0.seen (longer place.old.me.0.seen told.me.0.seen) × IsPrefix told.me.0.seen (longer place.old.me.0.seen told.me.0.seen) }
-        ensures fixed { (f g : B.Fixed) → place.old.me.0.fixed ≡ Some f → told.me.0.fixed ≡ Some g → told.me.0.fixed ≡ place.old.me.0.fixed }
-        ensures sound { IsSoundView B.caller place.old.me.0 → IsSoundView B.caller (view_told place.old.me.0 told.me.0) }
+        ensures place { (place.new.table_id ≡ place.old.table_id) × (place.new.id ≡ place.old.id) }
+        ensures me { place.new.me ≡ (view_told place.old.me.0 told.me.0, place.old.me.1) }
+        ensures begins { IsPrefix place.old.me.0.seen (longer place.old.me.0.seen told.me.0.seen)
+            × IsPrefix told.me.0.seen (longer place.old.me.0.seen told.me.0.seen) }
+        ensures fixed { (f g : B.Fixed) → place.old.me.0.fixed ≡ Some f → told.me.0.fixed ≡ Some g
+            → told.me.0.fixed ≡ place.old.me.0.fixed }
+        ensures sound { IsSoundView B.caller place.old.me.0
+            → IsSoundView B.caller (view_told place.old.me.0 told.me.0) }
     {
         self.board.shared.join_seat::<Note>(place, told);
         self.board.shared.load::<Settle>(place, LENGTH);
@@ -86,12 +93,17 @@ impl<B: Story> Turn<B> {
     // Ends the other seat in this one.
     fn absorb(&self, place: &mut Place<B>, other: Place<B>)
         requires lock { (place.old.table_id ≡ self.now) × (other.table_id ≡ self.now) }
-        requires idle { (place.old.me.0.has_turn ≡ false) × (other.me.0.has_turn ≡ false) × (other.me.0.has_ticket ≡ false) × (other.me.1 ≡ []) }
+        requires idle { (place.old.me.0.has_turn ≡ false) × (other.me.0.has_turn ≡ false) }
+        requires ticket { (other.me.0.has_ticket ≡ false) × (other.me.1 ≡ []) }
         requires number { other.me.0.number < 64 }
-        ensures place { (place.new.table_id ≡ place.old.table_id) × (place.new.id ≡ place.old.id) × (place.new.me ≡ (view_joined place.old.me.0 other.me.0, place.old.me.1)) }
-        ensures begins { IsPrefix place.old.me.0.seen (longer place.old.me.0.seen other.me.0.seen) × IsPrefix other.me.0.seen (longer place.old.me.0.seen other.me.0.seen) }
-        ensures fixed { (f g : B.Fixed) → place.old.me.0.fixed ≡ Some f → other.me.0.fixed ≡ Some g → other.me.0.fixed ≡ place.old.me.0.fixed }
-        ensures sound { IsSoundView B.caller place.old.me.0 → IsSoundView B.caller (view_joined place.old.me.0 other.me.0) }
+        ensures place { (place.new.table_id ≡ place.old.table_id) × (place.new.id ≡ place.old.id) }
+        ensures me { place.new.me ≡ (view_joined place.old.me.0 other.me.0, place.old.me.1) }
+        ensures begins { IsPrefix place.old.me.0.seen (longer place.old.me.0.seen other.me.0.seen)
+            × IsPrefix other.me.0.seen (longer place.old.me.0.seen other.me.0.seen) }
+        ensures fixed { (f g : B.Fixed) → place.old.me.0.fixed ≡ Some f → other.me.0.fixed ≡ Some g
+            → other.me.0.fixed ≡ place.old.me.0.fixed }
+        ensures sound { IsSoundView B.caller place.old.me.0
+            → IsSoundView B.caller (view_joined place.old.me.0 other.me.0) }
     {
         self.board.shared.join_seat::<Absorb>(place, other);
         self.board.shared.load::<Settle>(place, LENGTH);

@@ -1,8 +1,9 @@
 // The lock, and the calls that take a turn or look at the length.
-ghost use Rattle.std.specs.Prelude.{◌≡◌, ◌%◌, ◌^◌, ◌<◌, ◌≤◌, true, false, [], ◌∷◌, ◌++◌, length, IfOk, Some, All};
+ghost use Rattle.std.specs.Prelude.{◌≡◌, ◌%◌, ◌^◌, ◌<◌, ◌≤◌, true, false, [], ◌∷◌, ◌++◌, length, IfOk, Some, All, None};
 ghost use Rattle.bp_turn.specs.Plays.{Took};
 ghost use Rattle.bp_turn.specs.Prefix.{IsPrefix};
 ghost use Rattle.bp_turn.specs.Seat.{first_seat};
+ghost use Rattle.bp_turn.specs.Views.{view_after_turn};
 
 use crate::board::{Board, LENGTH, Place, SERVING, TICKET};
 use crate::plays::{Call, Draw, Give, Log, Look};
@@ -63,7 +64,11 @@ impl<B: Story> Turn<B> {
         requires idle { seat.old.has_turn ≡ false }
         ensures fixed { seat.old.fixed ≡ Some (B.fixed result) }
         ensures begins { IsPrefix seat.old.seen (B.story result) }
-        ensures seat { seat.new ≡ record seat.old { seen = B.story result; has_turn = true; turns = seat.old.turns ++ length (B.story result) ∷ [] } }
+        ensures seat { seat.new ≡ record seat.old {
+          seen = B.story result;
+          has_turn = true;
+          turns = seat.old.turns ++ length (B.story result) ∷ [];
+        } }
     {
         let ticket = self
             .board
@@ -84,12 +89,8 @@ impl<B: Story> Turn<B> {
         requires story { B.story value ≡ seat.old.seen }
         ensures { seat.new ≡ record seat.old { has_turn = false } }
     {
-        let empty = self.board.shared.exchange(&mut seat.place, 0, Some(value));
-        let None = empty else { unreachable!() };
-        self.board
-            .shared
-            .fetch_add::<Give>(&mut seat.place, SERVING, 1);
-        self.board.shared.wake_all(SERVING);
+        self.put_back(&mut seat.place, value);
+        self.serve_next(&mut seat.place);
     }
 
     /// Gives the value back with one entry more, which the seat made, and ends the turn. The one atomic step that raises the length makes the entry part of the history.
@@ -97,20 +98,23 @@ impl<B: Story> Turn<B> {
         requires lock { seat.old.lock ≡ self.now }
         requires turn { seat.old.has_turn ≡ true }
         requires fixed { seat.old.fixed ≡ Some (B.fixed value) }
-        requires story { (e : B.Entry) × (B.story value ≡ seat.old.seen ++ e ∷ []) × (B.caller e ≡ seat.old.number) }
-        ensures { (e : B.Entry) → B.story value ≡ seat.old.seen ++ e ∷ [] → seat.new ≡ record seat.old { seen = seat.old.seen ++ e ∷ []; own = seat.old.own ++ e ∷ []; has_turn = false } }
+        requires story { (e : B.Entry)
+            × (B.story value ≡ seat.old.seen ++ e ∷ [])
+            × (B.caller e ≡ seat.old.number) }
+        ensures { (e : B.Entry) → B.story value ≡ seat.old.seen ++ e ∷ []
+            → seat.new ≡ record seat.old {
+              seen = seat.old.seen ++ e ∷ [];
+              own = seat.old.own ++ e ∷ [];
+              has_turn = false;
+            } }
     {
         let _length = value.length();
         // The value goes back into the slot before the step on the length, since that step reads the entry there. The seat holds the slot until the next ticket is served, so no other thread can touch it in between.
-        let empty = self.board.shared.exchange(&mut seat.place, 0, Some(value));
-        let None = empty else { unreachable!() };
+        self.put_back(&mut seat.place, value);
         self.board
             .shared
             .fetch_add::<Log>(&mut seat.place, LENGTH, 1);
-        self.board
-            .shared
-            .fetch_add::<Give>(&mut seat.place, SERVING, 1);
-        self.board.shared.wake_all(SERVING);
+        self.serve_next(&mut seat.place);
     }
 
     /// The length of the history at this moment, found without a turn and without waiting.
@@ -122,10 +126,39 @@ impl<B: Story> Turn<B> {
         self.board.shared.load::<Look>(&mut seat.place, LENGTH)
     }
 
-    // Sleeps until the ticket is served, and has the value then. `give` wakes all that sleep here.
+    // Puts the value into the slot, which the seat holds.
+    fn put_back(&self, place: &mut Place<B>, value: B)
+        requires lock { place.old.table_id ≡ self.now }
+        requires empty { place.old.me.1 ≡ (0, None) ∷ [] }
+        ensures place { (place.new.table_id ≡ place.old.table_id) × (place.new.id ≡ place.old.id) }
+        ensures slot { place.new.me ≡ (place.old.me.0, (0, Some value) ∷ []) }
+    {
+        let empty = self.board.shared.exchange(place, 0, Some(value));
+        let None = empty else { unreachable!() };
+    }
+
+    // Gives the slot back, serves the next ticket, and wakes all that sleep in `wait`.
+    fn serve_next(&self, place: &mut Place<B>)
+        requires lock { place.old.table_id ≡ self.now }
+        requires turn { (place.old.me.0.number < 64) × (place.old.me.0.has_turn ≡ true) }
+        requires slot { (b : B)
+            × (place.old.me.1 ≡ (0, Some b) ∷ [])
+            × (B.story b ≡ place.old.me.0.seen)
+            × (place.old.me.0.fixed ≡ Some (B.fixed b)) }
+        ensures place { (place.new.table_id ≡ place.old.table_id) × (place.new.id ≡ place.old.id) }
+        ensures turn { place.new.me ≡ (view_after_turn place.old.me.0, []) }
+    {
+        self.board.shared.fetch_add::<Give>(place, SERVING, 1);
+        self.board.shared.wake_all(SERVING);
+    }
+
+    // Sleeps until the ticket is served, and has the slot with the value then.
     fn wait<R: Wait>(&self, rt: &R, place: &mut Place<B>, ticket: u64)
         requires lock { place.old.table_id ≡ self.now }
-        requires ticket { (place.old.me.0.number < 64) × (place.old.me.0.has_ticket ≡ true) × (place.old.me.0.has_turn ≡ false) × (ticket ≡ place.old.me.0.ticket % 2 ^ 64) }
+        requires ticket { (place.old.me.0.number < 64)
+            × (place.old.me.0.has_ticket ≡ true)
+            × (place.old.me.0.has_turn ≡ false)
+            × (ticket ≡ place.old.me.0.ticket % 2 ^ 64) }
         ensures place { (place.new.table_id ≡ place.old.table_id) × (place.new.id ≡ place.old.id) }
         ensures took { Took B.fixed B.story B.caller place.old.me place.new.me }
     {

@@ -1,4 +1,4 @@
-use Rattle.std.proofs.Common.{◌≡◌, Contains, arith, ap, sym, subst}
+use Rattle.std.proofs.Common.{Contains, arith, ap, sym, subst}
 use Rattle.bp_turn.proofs.Numbers.{run_contains}
 use Rattle.bp_turn.proofs.tests.opened.Goals as goal
 

@@ -1,5 +1,4 @@
 use Rattle.std.proofs.Common.{◌≡◌, ◌++◌, ◌∷◌, [], length, ap, arith, rules}
-use Rattle.bp_turn.proofs.Leaves.{leaves}
 use Rattle.bp_turn.proofs.Logs.{logs_entry}
 use Rattle.bp_turn.proofs.turn.Turn.give_logged.Goals as goal
 
@@ -7,9 +6,6 @@ use Rattle.bp_turn.proofs.turn.Turn.give_logged.Goals as goal
 pub fetch_add-requires : goal.fetch_add-requires
 fetch_add-requires g c =
     let entry = c.requires.story in
-    let same : g.B.Story.story c.args.value ≡ c.exchange-empty.new.seat.me.0.seen ++ entry.0 ∷ [] = search rules in
+    let same : g.B.Story.story c.args.value ≡ c.put_back.new.place.me.0.seen ++ entry.0 ∷ [] = search rules in
     let n = ap length same in
     (search rules, search rules, logs_entry _ _ _ _ _ _ _ c.args.value entry.0 (search rules) (search rules) (search rules) same (search rules) (omega (arith, n, c.length-length.ensures, c.length-length.type_inv)))
-
-pub fetch_add-requires-2 : goal.fetch_add-requires-2
-fetch_add-requires-2 g c = (search rules, search rules, leaves _ _ _ _ _ _ _ c.args.value (search rules) (search rules) (search rules) (search rules) (search rules))

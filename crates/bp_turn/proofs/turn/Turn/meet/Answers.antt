@@ -1,4 +1,4 @@
-use Rattle.std.proofs.Common.{◌≡◌, rules, sym, ◌∙◌}
+use Rattle.std.proofs.Common.{◌≡◌, rules, ◌∙◌}
 use Rattle.bp_turn.specs.Prefix.{IsPrefix, longer}
 use Rattle.bp_turn.proofs.Prefixes.{longer_comm}
 use Rattle.bp_turn.proofs.Splits.{notes}

@@ -5,6 +5,7 @@ ghost use Rattle.bp_turn.specs.Prefix.{IsPrefix};
 ghost use Rattle.bp_turn.specs.Seat.{first_seat};
 ghost use Rattle.bp_turn.specs.Views.{view_after_turn};
 
+use crate::bell::Bell;
 use crate::board::{Board, LENGTH, Place, SERVING, TICKET};
 use crate::plays::{Call, Draw, Give, Log, Look};
 use crate::seat::TurnSeat;
@@ -15,6 +16,9 @@ use std::marker::Model;
 use std::snapshot::Snapshot;
 use std::sync::Wait;
 
+// How often a thread sleeps before it draws its ticket.
+const PATIENCE: u32 = 16;
+
 /// There was no memory.
 #[derive(Clone, Copy, PartialEq, Eq, Debug)]
 pub struct Memory;
@@ -23,6 +27,9 @@ pub struct Memory;
 #[derive(Drop)]
 pub struct Turn<B: Story> {
     pub(crate) board: Board<B>,
+    // Where threads sleep that have no ticket yet, and those that have one.
+    door: Bell,
+    line: Bell,
 }
 
 impl<B: Story> Model for Turn<B> {
@@ -51,14 +58,21 @@ impl<B: Story + Drop> Turn<B> {
             return Err(Memory);
         };
         match Table::new(alloc, &[length, 0, 0], slots, &about) {
-            Ok((board, place)) => Ok((Turn { board }, TurnSeat { place })),
+            Ok((board, place)) => {
+                let turn = Turn {
+                    board,
+                    door: Bell::new(),
+                    line: Bell::new(),
+                };
+                Ok((turn, TurnSeat { place }))
+            }
             Err(_) => Err(Memory),
         }
     }
 }
 
 impl<B: Story> Turn<B> {
-    /// Waits for the seat's turn, and takes the value. A thread that waits sleeps until some turn ends.
+    /// Waits for the seat's turn, and takes the value. A thread that waits sleeps, and is woken when a turn ends.
     pub fn take<R: Wait>(&self, rt: &R, seat: &mut TurnSeat<B>) -> B
         requires lock { seat.old.lock ≡ self.now }
         requires idle { seat.old.has_turn ≡ false }
@@ -70,6 +84,7 @@ impl<B: Story> Turn<B> {
           turns = seat.old.turns ++ length (B.story result) ∷ [];
         } }
     {
+        self.approach(rt);
         let ticket = self
             .board
             .shared
@@ -137,7 +152,7 @@ impl<B: Story> Turn<B> {
         let None = empty else { unreachable!() };
     }
 
-    // Gives the slot back, serves the next ticket, and wakes all that sleep in `wait`.
+    // Gives the slot back, serves the next ticket, and wakes those that it may concern.
     fn serve_next(&self, place: &mut Place<B>)
         requires lock { place.old.table_id ≡ self.now }
         requires turn { (place.old.me.0.number < 64) × (place.old.me.0.has_turn ≡ true) }
@@ -149,7 +164,29 @@ impl<B: Story> Turn<B> {
         ensures turn { place.new.me ≡ (view_after_turn place.old.me.0, []) }
     {
         self.board.shared.fetch_add::<Give>(place, SERVING, 1);
-        self.board.shared.wake_all(SERVING);
+        self.line.ring_for_all();
+        self.door.ring_for_one();
+    }
+
+    // Sleeps before it draws a ticket, until no ticket is out: else each turn would wait for the one thread that is next to wake up. After some sleeps it goes on all the same, so that threads that came later do not pass it for ever.
+    fn approach<R: Wait>(&self, rt: &R) {
+        for _ in 0..PATIENCE {
+            if self.is_free() {
+                return;
+            }
+            self.door.ask();
+            if !self.is_free() {
+                self.door.sleep(rt);
+                // Others may sleep here too, and are to be woken after its turn.
+                self.door.ask();
+            }
+        }
+    }
+
+    // Whether no ticket is out, as far as two looks can tell.
+    fn is_free(&self) -> bool {
+        let serving = self.board.shared.peek(SERVING);
+        serving == self.board.shared.peek(TICKET)
     }
 
     // Sleeps until the ticket is served, and has the slot with the value then.
@@ -162,14 +199,17 @@ impl<B: Story> Turn<B> {
         ensures place { (place.new.table_id ≡ place.old.table_id) × (place.new.id ≡ place.old.id) }
         ensures took { Took B.fixed B.story B.caller place.old.me place.new.me }
     {
+        let mut has_asked = false;
         for _ in rt.forever() {
             let serving = self.board.shared.load::<Call>(place, SERVING);
             if serving == ticket {
                 return;
             }
-            self.board
-                .shared
-                .park(rt, SERVING, (serving & 0xffff_ffff) as u32);
+            if has_asked {
+                self.line.sleep(rt);
+            }
+            self.line.ask();
+            has_asked = true;
         }
         unreachable!()
     }

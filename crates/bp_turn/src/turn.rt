@@ -174,9 +174,9 @@ impl<B: Story> Turn<B> {
             if self.is_free() {
                 return;
             }
-            self.door.ask();
+            let asked = self.door.ask();
             if !self.is_free() {
-                self.door.sleep(rt);
+                self.door.sleep(rt, asked);
                 // Others may sleep here too, and are to be woken after its turn.
                 self.door.ask();
             }
@@ -199,17 +199,16 @@ impl<B: Story> Turn<B> {
         ensures place { (place.new.table_id ≡ place.old.table_id) × (place.new.id ≡ place.old.id) }
         ensures took { Took B.fixed B.story B.caller place.old.me place.new.me }
     {
-        let mut has_asked = false;
+        let mut asked = None;
         for _ in rt.forever() {
             let serving = self.board.shared.load::<Call>(place, SERVING);
             if serving == ticket {
                 return;
             }
-            if has_asked {
-                self.line.sleep(rt);
+            if let Some(asked) = asked {
+                self.line.sleep(rt, asked);
             }
-            self.line.ask();
-            has_asked = true;
+            asked = Some(self.line.ask());
         }
         unreachable!()
     }

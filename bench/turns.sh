@@ -9,7 +9,7 @@
 set -eu
 here="$(cd "$(dirname "${BASH_SOURCE[0]}")" && pwd)"
 top="$(dirname "$here")"
-entries="${1:-4000000}"
+entries="${1:-8000000}"
 work="$(mktemp -d)"
 trap 'rm -rf "$work"' EXIT
 

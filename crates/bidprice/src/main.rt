@@ -3,6 +3,7 @@
 
 use bp_edges::{FileShelf, NoGate, OutSink};
 use std::env;
+use std::env::Env;
 use std::io;
 use std::process::ExitCode;
 

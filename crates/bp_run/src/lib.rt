@@ -11,3 +11,6 @@ mod top;
 
 pub use end::{Cause, End};
 pub use top::{run, run_plain};
+
+#[cfg(test)]
+mod tests;

@@ -1,0 +1,80 @@
+-- Good files are not refused.
+use Rattle.std.proofs.Common.{◌≡◌, ℕ, ◌≤◌, refl, arith, List, [], ◌∷◌, ◌++◌, All, Option, None, Some, IsSome, IsSomeAnd, get_or, subst}
+use Rattle.bp_edges.specs.Held.{Files}
+use Rattle.std.proofs.lemmas.List.Elements.{All-head, All-tail}
+use Rattle.std.specs.FinMap.{get}
+use Rattle.bp_cert.specs.declared.text_error.TextError.{TextError}
+use Rattle.bp_cert.specs.declared.text_error.TextError.TheVariants.{BadLine as BadForm, Limit as OutOfLimit, TooShort as EndsEarly, Trailing as GoesOn, Memory as NoMemory}
+use Rattle.bp_cert.specs.declared.verdict.Verdict.{Verdict}
+use Rattle.bp_cert.specs.declared.verdict.Verdict.TheVariants.{WrongLength, PriceTooGreat, AboveForecast, Overfull, Gap, Misvalued, Optimal}
+use Rattle.bp_cert.specs.Texts.{problem_lines, certificate_lines, IsProblem, IsSpeakable}
+use Rattle.bp_run.specs.Words.{Word}
+use Rattle.bp_run.specs.Files.{Kind, problem, certificate, NamedFile, IsAccepted, IsRefused, IsGoodText, IsGood, HasCause, files}
+use Rattle.bp_run.specs.Fetches.{Fetches, ComesAt, IsRefusedFor}
+use Rattle.bp_run.specs.Lines.{status_of, verdict_status}
+use Rattle.bp_run.specs.Ends.{HasEnd, IsComplete, HoldsAll}
+use Rattle.bp_run.specs.declared.end.Cause.{Cause}
+use Rattle.bp_run.specs.declared.end.Cause.TheVariants.{TooLong, BadLine, Limit, TooShort, Trailing}
+use Rattle.bp_run.specs.declared.end.End.{End}
+use Rattle.bp_run.specs.declared.end.End.TheVariants.{NotPlain, Fault, Refused, Checked}
+use Rattle.bp_run.proofs.TextLemmas.{not_refused, problem_no_ends, certificate_no_ends, problem_whole, certificate_whole}
+
+accepted_not_refused : (kind : Kind) (bytes : List ℕ) (error : TextError) → (error ≡ NoMemory → ⊥) → IsAccepted kind bytes → IsRefused kind bytes error → ⊥
+accepted_not_refused problem bytes error other (p, accepted) refused =
+    not_refused problem_lines IsProblem problem_no_ends problem_whole bytes p accepted.0 accepted.1 error other refused
+accepted_not_refused certificate bytes error other (c, accepted) refused =
+    not_refused certificate_lines IsSpeakable certificate_no_ends certificate_whole bytes c accepted.0 accepted.1 error other refused
+
+good_has_no_cause : (kind : Kind) (bytes : List ℕ) (cause : Cause) → IsGoodText kind bytes → HasCause kind bytes cause → ⊥
+good_has_no_cause kind bytes TooLong good long = omega (arith, good.short, long)
+good_has_no_cause kind bytes (BadLine line) good bad = accepted_not_refused kind bytes (BadForm line) (λ e. cc) good.accepted bad.refused
+good_has_no_cause kind bytes (Limit line) good bad = accepted_not_refused kind bytes (OutOfLimit line) (λ e. cc) good.accepted bad.refused
+good_has_no_cause kind bytes TooShort good bad = accepted_not_refused kind bytes EndsEarly (λ e. cc) good.accepted bad.refused
+good_has_no_cause kind bytes (Trailing line) good bad = accepted_not_refused kind bytes (GoesOn line) (λ e. cc) good.accepted bad.refused
+
+-- what is there cannot be both
+not_both : {X : Type 0} (there : Option X) (P Q : X → Type 0) → ((x : X) → P x → Q x → ⊥) → IsSomeAnd there P → IsSomeAnd there Q → ⊥
+not_both None P Q never p q = p
+not_both (Some x) P Q never p q = never x p q
+
+All-at : {X : Type 0} (P : X → Type 0) (before : List X) (x : X) (after : List X) → All P (before ++ x ∷ after) → P x
+All-at P [] x after all = All-head P x after all
+All-at P (y ∷ before) x after all = All-at P before x after (All-tail P y (before ++ x ∷ after) all)
+
+verdict_is_done : (verdict : Verdict) → verdict_status verdict ≤ 1
+verdict_is_done (Optimal value) = omega arith
+verdict_is_done WrongLength = omega arith
+verdict_is_done (PriceTooGreat night) = omega arith
+verdict_is_done (AboveForecast stay) = omega arith
+verdict_is_done (Overfull night taken) = omega arith
+verdict_is_done (Gap value over) = omega arith
+verdict_is_done (Misvalued value) = omega arith
+
+refused_is_not_good : (words : List Word) (shelf : Fetches) (all : IsComplete words shelf.held) (named : List NamedFile) (number : ℕ) (cause : Cause)
+    → All (IsGood all.all) named → ComesAt shelf.held (IsRefusedFor shelf cause) named number → ⊥
+refused_is_not_good words shelf all named number cause each comes =
+    let P : List NamedFile → Type 0 = λ fs. All (IsGood all.all) fs in
+    let good = All-at (IsGood all.all) comes.before comes.file comes.after (subst P comes.splits each) in
+    not_both (get all.all comes.file.name) (IsGoodText comes.file.kind) (λ bytes. HasCause comes.file.kind bytes cause)
+    (λ bytes. good_has_no_cause comes.file.kind bytes cause) good (comes.here.told all.all all.told)
+
+-- where every file is held and good, the call ends with a verdict, or by a fault
+pub complete : (words : List Word) (shelf : Fetches) (end : End) → IsComplete words shelf.held → HasEnd words shelf end → (status_of end ≡ 4 → ⊥) → status_of end ≤ 1
+complete words shelf NotPlain all has none = absurd (has all.plain)
+complete words shelf (Fault file) all has none = absurd (none refl)
+complete words shelf (Refused file cause) all (task, asks, comes) none =
+    absurd (refused_is_not_good words shelf all (files task) file cause (all.each task asks) comes)
+complete words shelf (Checked verdict) all has none = verdict_is_done verdict
+
+-- a file that is good is there
+some_there : {X : Type 0} (there : Option X) (P : X → Type 0) → IsSomeAnd there P → IsSome there
+some_there None P p = absurd p
+some_there (Some x) P p = refl
+
+-- so every file of complete words is there
+pub holds_all : (words : List Word) (held : Option Files) → IsComplete words held → HoldsAll words held
+holds_all words held all task asks = record {
+  files = all.all;
+  told = all.told;
+  each = λ k d h. some_there (get all.all (get_or (files task) k d).name) (IsGoodText (get_or (files task) k d).kind) (all.each task asks k d h);
+}

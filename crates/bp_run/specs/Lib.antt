@@ -1,0 +1,6 @@
+pub mod Words
+pub mod Files
+pub mod Fetches
+pub mod Lines
+pub mod Ends
+pub mod Stops

@@ -3,10 +3,13 @@ use Rattle.std.proofs.Common.{◌≡◌, ℕ, ◌≤◌, refl, arith, List, [], 
 use Rattle.bp_edges.specs.Held.{Files}
 use Rattle.std.proofs.lemmas.List.Elements.{All-head, All-tail}
 use Rattle.std.specs.FinMap.{get}
+use Rattle.std.specs.Prelude.{Result, Ok, Err}
 use Rattle.bp_cert.specs.declared.text_error.TextError.{TextError}
 use Rattle.bp_cert.specs.declared.text_error.TextError.TheVariants.{BadLine as BadForm, Limit as OutOfLimit, TooShort as EndsEarly, Trailing as GoesOn, Memory as NoMemory}
 use Rattle.bp_cert.specs.declared.verdict.Verdict.{Verdict}
 use Rattle.bp_cert.specs.declared.verdict.Verdict.TheVariants.{WrongLength, PriceTooGreat, AboveForecast, Overfull, Gap, Misvalued, Optimal}
+use Rattle.bp_cert.specs.Reading.{IsText}
+use Rattle.bp_cert.specs.Laws.{IsReadOneWay}
 use Rattle.bp_cert.specs.Texts.{problem_lines, certificate_lines, IsProblem, IsSpeakable}
 use Rattle.bp_run.specs.Words.{Word}
 use Rattle.bp_run.specs.Files.{Kind, problem, certificate, NamedFile, IsAccepted, IsRefused, IsGoodText, IsGood, HasCause, files}
@@ -17,20 +20,30 @@ use Rattle.bp_run.specs.declared.end.Cause.{Cause}
 use Rattle.bp_run.specs.declared.end.Cause.TheVariants.{TooLong, BadLine, Limit, TooShort, Trailing}
 use Rattle.bp_run.specs.declared.end.End.{End}
 use Rattle.bp_run.specs.declared.end.End.TheVariants.{NotPlain, Fault, Refused, Checked}
-use Rattle.bp_run.proofs.TextLemmas.{not_refused, problem_no_ends, certificate_no_ends, problem_whole, certificate_whole}
 
-accepted_not_refused : (kind : Kind) (bytes : List ℕ) (error : TextError) → (error ≡ NoMemory → ⊥) → IsAccepted kind bytes → IsRefused kind bytes error → ⊥
-accepted_not_refused problem bytes error other (p, accepted) refused =
-    not_refused problem_lines IsProblem problem_no_ends problem_whole bytes p accepted.0 accepted.1 error other refused
-accepted_not_refused certificate bytes error other (c, accepted) refused =
-    not_refused certificate_lines IsSpeakable certificate_no_ends certificate_whole bytes c accepted.0 accepted.1 error other refused
+-- both kinds of text are read in one way
+pub record AreReadOneWay : Type 0 where
+  pub problems : IsReadOneWay problem_lines IsProblem
+  pub certificates : IsReadOneWay certificate_lines IsSpeakable
 
-good_has_no_cause : (kind : Kind) (bytes : List ℕ) (cause : Cause) → IsGoodText kind bytes → HasCause kind bytes cause → ⊥
-good_has_no_cause kind bytes TooLong good long = omega (arith, good.short, long)
-good_has_no_cause kind bytes (BadLine line) good bad = accepted_not_refused kind bytes (BadForm line) (λ e. cc) good.accepted bad.refused
-good_has_no_cause kind bytes (Limit line) good bad = accepted_not_refused kind bytes (OutOfLimit line) (λ e. cc) good.accepted bad.refused
-good_has_no_cause kind bytes TooShort good bad = accepted_not_refused kind bytes EndsEarly (λ e. cc) good.accepted bad.refused
-good_has_no_cause kind bytes (Trailing line) good bad = accepted_not_refused kind bytes (GoesOn line) (λ e. cc) good.accepted bad.refused
+-- an answer is no refusal but Memory, where both say the same of the bytes
+one_answer : {V : Type 0} (Says : Result V TextError → Type 0) (v : V) (error : TextError) → (error ≡ NoMemory → ⊥)
+    → ((a b : Result V TextError) → (a ≡ Err NoMemory → ⊥) → (b ≡ Err NoMemory → ⊥) → Says a → Says b → a ≡ b) → Says (Ok v) → Says (Err error) → ⊥
+one_answer Says v error other law accepted refused =
+    let same = law (Ok v) (Err error) (λ e. cc) (λ e. other (cc)) accepted refused in cc
+
+accepted_not_refused : AreReadOneWay → (kind : Kind) (bytes : List ℕ) (error : TextError) → (error ≡ NoMemory → ⊥) → IsAccepted kind bytes → IsRefused kind bytes error → ⊥
+accepted_not_refused law problem bytes error other (p, accepted) refused =
+    one_answer (IsText problem_lines IsProblem bytes) p error other (law.problems bytes) accepted refused
+accepted_not_refused law certificate bytes error other (c, accepted) refused =
+    one_answer (IsText certificate_lines IsSpeakable bytes) c error other (law.certificates bytes) accepted refused
+
+good_has_no_cause : AreReadOneWay → (kind : Kind) (bytes : List ℕ) (cause : Cause) → IsGoodText kind bytes → HasCause kind bytes cause → ⊥
+good_has_no_cause law kind bytes TooLong good long = omega (arith, good.short, long)
+good_has_no_cause law kind bytes (BadLine line) good bad = accepted_not_refused law kind bytes (BadForm line) (λ e. cc) good.accepted bad.refused
+good_has_no_cause law kind bytes (Limit line) good bad = accepted_not_refused law kind bytes (OutOfLimit line) (λ e. cc) good.accepted bad.refused
+good_has_no_cause law kind bytes TooShort good bad = accepted_not_refused law kind bytes EndsEarly (λ e. cc) good.accepted bad.refused
+good_has_no_cause law kind bytes (Trailing line) good bad = accepted_not_refused law kind bytes (GoesOn line) (λ e. cc) good.accepted bad.refused
 
 -- what is there cannot be both
 not_both : {X : Type 0} (there : Option X) (P Q : X → Type 0) → ((x : X) → P x → Q x → ⊥) → IsSomeAnd there P → IsSomeAnd there Q → ⊥
@@ -50,21 +63,21 @@ verdict_is_done (Overfull night taken) = omega arith
 verdict_is_done (Gap value over) = omega arith
 verdict_is_done (Misvalued value) = omega arith
 
-refused_is_not_good : (words : List Word) (shelf : Fetches) (all : IsComplete words shelf.held) (named : List NamedFile) (number : ℕ) (cause : Cause)
+refused_is_not_good : AreReadOneWay → (words : List Word) (shelf : Fetches) (all : IsComplete words shelf.held) (named : List NamedFile) (number : ℕ) (cause : Cause)
     → All (IsGood all.all) named → ComesAt shelf.held (IsRefusedFor shelf cause) named number → ⊥
-refused_is_not_good words shelf all named number cause each comes =
+refused_is_not_good law words shelf all named number cause each comes =
     let P : List NamedFile → Type 0 = λ fs. All (IsGood all.all) fs in
     let good = All-at (IsGood all.all) comes.before comes.file comes.after (subst P comes.splits each) in
     not_both (get all.all comes.file.name) (IsGoodText comes.file.kind) (λ bytes. HasCause comes.file.kind bytes cause)
-    (λ bytes. good_has_no_cause comes.file.kind bytes cause) good (comes.here.told all.all all.told)
+    (λ bytes. good_has_no_cause law comes.file.kind bytes cause) good (comes.here.told all.all all.told)
 
 -- where every file is held and good, the call ends with a verdict, or by a fault
-pub complete : (words : List Word) (shelf : Fetches) (end : End) → IsComplete words shelf.held → HasEnd words shelf end → (status_of end ≡ 4 → ⊥) → status_of end ≤ 1
-complete words shelf NotPlain all has none = absurd (has all.plain)
-complete words shelf (Fault file) all has none = absurd (none refl)
-complete words shelf (Refused file cause) all (task, asks, comes) none =
-    absurd (refused_is_not_good words shelf all (files task) file cause (all.each task asks) comes)
-complete words shelf (Checked verdict) all has none = verdict_is_done verdict
+pub complete : AreReadOneWay → (words : List Word) (shelf : Fetches) (end : End) → IsComplete words shelf.held → HasEnd words shelf end → (status_of end ≡ 4 → ⊥) → status_of end ≤ 1
+complete law words shelf NotPlain all has none = absurd (has all.plain)
+complete law words shelf (Fault file) all has none = absurd (none refl)
+complete law words shelf (Refused file cause) all (task, asks, comes) none =
+    absurd (refused_is_not_good law words shelf all (files task) file cause (all.each task asks) comes)
+complete law words shelf (Checked verdict) all has none = verdict_is_done verdict
 
 -- a file that is good is there
 some_there : {X : Type 0} (there : Option X) (P : X → Type 0) → IsSomeAnd there P → IsSome there

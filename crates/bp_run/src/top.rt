@@ -9,6 +9,7 @@ use crate::End;
 use crate::outcome::end_of;
 use crate::print::{NO_MEMORY, finish};
 use crate::task::may_start_threads;
+use bp_cert::law;
 use bp_edges::{Gate, Shelf, Sink};
 use std::alloc::Global;
 use std::sync::Wait;
@@ -41,6 +42,8 @@ pub fn run_plain<S: Shelf, K: Sink>(
     ensures complete { S.steady shelf.old → K.steady out.old → IsComplete (texts words.now) (S.held shelf.old)
         → (result ≤ 1) ⊎ (result ≡ 6) }
 {
+    law::problems_have_one_spelling();
+    law::certificates_have_one_spelling();
     match end_of(alloc, words, shelf) {
         Ok(end) => finish(alloc, end, out),
         Err(_) => NO_MEMORY,

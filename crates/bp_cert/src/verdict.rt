@@ -28,7 +28,7 @@ pub enum Verdict {
 }
 
 /// Checks a certificate: the first verdict that holds, in the order of `Verdict`, each at its first place.
-/// It goes once over the nights and once over the stays.
+/// Its time grows with nights plus stays.
 pub fn check(instance: &Instance, certificate: &Certificate) -> Verdict
     ensures first { IsVerdict instance.now certificate.now result }
     ensures exact { Certifies instance.now certificate.now.value certificate.now.sell certificate.now.prices → result ≡ Verdict.Optimal certificate.now.value }

@@ -157,9 +157,9 @@ fn refusals() -> &'static [(&'static str, &'static str, &'static str)] {
             "refused 1 tooshort\n",
         ),
         (
-            "problem 1\nnights 1\nrooms 2\nstays 0\nend\n\n",
+            "problem 1\nnights 3\nrooms 2 1 2\nstays 4\nstay 0 2 100 3\nstay 1 3 150 1\nstay 0 1 60 1\nstay 2 3 40 5\nend\n ",
             CERTIFICATE,
-            "refused 1 trailing 6\n",
+            "refused 1 trailing 10\n",
         ),
         ("problem 2\n", CERTIFICATE, "refused 1 badline 1\n"),
         (

@@ -1,0 +1,11 @@
+pub mod Slackness
+pub mod Lifts
+pub mod Pushes
+pub mod Paths
+pub mod Augment
+pub mod Least
+pub mod LeastLaws
+pub mod LiftLoop
+pub mod PushLoop
+pub mod Empty
+pub mod NightRooms

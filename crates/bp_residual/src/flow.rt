@@ -78,6 +78,22 @@ impl Flow {
         })
     }
 
+    /// A copy, the same in every value.
+    pub fn copy(&self, alloc: Global) -> Result<Flow, Memory>
+        ensures { IfOk result (λ f. f ≡ self.now) }
+    {
+        let instance = self.instance.copy(alloc)?;
+        let sell = Vec::from_slice(alloc, &self.sell)?;
+        let spare = Vec::from_slice(alloc, &self.spare)?;
+        let potentials = Vec::from_slice(alloc, &self.potentials)?;
+        Ok(Flow {
+            instance,
+            sell,
+            spare,
+            potentials,
+        })
+    }
+
     /// How many nights there are.
     pub fn nights(&self) -> u32
         ensures value { result ≡ length self.now.flow.program.rooms }

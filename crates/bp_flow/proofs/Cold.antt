@@ -8,7 +8,7 @@ use Rattle.bp_types.specs.Program.{Program}
 use Rattle.bp_types.specs.Changes.{changed}
 use Rattle.bp_residual.specs.Network.{Priced, Flow, IsPriced, IsEmptyFlowOf, greatest_rate}
 use Rattle.bp_residual.proofs.Empty.{empty_is_slack, empty_is_balanced}
-use Rattle.bp_residual.proofs.NightRooms.{night_moved}
+use Rattle.bp_residual.proofs.Changed.{night_moved}
 use Rattle.bp_flow.specs.Solvers.{IsSolved, ColdSoFar, IsSolverOf}
 use Rattle.bp_flow.specs.Settled.{IsSettled}
 

@@ -8,4 +8,6 @@ pub mod LeastLaws
 pub mod LiftLoop
 pub mod PushLoop
 pub mod Empty
-pub mod NightRooms
+pub mod Changed
+pub mod Indexed
+pub mod Ends

@@ -1,5 +1,6 @@
 ghost use Rattle.std.specs.Prelude.{◌≡◌, ℕ, ◌+◌, ◌-◌, ◌*◌, ◌^◌, ◌<◌, ◌≤◌, length, slice_index, slice_set, IfOk, IfSome, MatchOption, ◌↔◌, if◌then◌else◌, All, map, neg_ℤ, pos};
 ghost use Rattle.bp_residual.specs.Network.{Priced, IsPriced, IsLifted, step_of, steps_of, arcs, tail, head, Admits, IsCost, prices_of, IsEmptyFlowOf, greatest_rate, forward_step, capacity, carried_by, gain, with_program, with_rooms, with_sold, room_of, IsSlack, pushed, sell_more, sell_less, spare_more, spare_less, greatest_spare, FitsSpare, Takes, NamesArcsOnce, pushed_along};
+ghost use Rattle.bp_residual.specs.Index.{AreHopsAt};
 ghost use Rattle.bp_types.specs.Program.{worth, stay_at};
 ghost use Rattle.std.specs.List.{range_with_len};
 ghost use Rattle.bp_types.specs.Limits.{most_rooms, most_rate, most_forecast};
@@ -7,6 +8,7 @@ ghost use Rattle.bp_types.specs.Changes.{changed, Fits};
 ghost use Rattle.bp_types.specs.declared.change.Change.TheVariants.{Rooms, Demand, Rate};
 
 use crate::lift::{level_potentials, lift_potentials};
+use crate::network::Network;
 use crate::rooms::{clear_rooms, set_rooms};
 use crate::{ArcView, Hop};
 use bp_types::{Certificate, Change, Instance, Memory, Span, Stay};
@@ -20,16 +22,18 @@ pub struct Flow {
     sell: Vec<u64>,
     spare: Vec<u64>,
     potentials: Vec<u64>,
+    network: Network,
 }
 
 impl Model for Flow {
     ghost use Rattle.bp_residual.specs.Network.{Priced, IsPriced};
+    ghost use Rattle.bp_residual.specs.Index.{AreEnds};
 
     ghost Value = { Priced };
 
     ghost view = { λ a. record { flow = record { program = a.instance; sell = a.sell.items; spare = a.spare.items }; potentials = a.potentials.items } };
 
-    ghost invariant = { λ a. IsPriced (record { flow = record { program = a.instance; sell = a.sell.items; spare = a.spare.items }; potentials = a.potentials.items }) };
+    ghost invariant = { λ a. IsPriced (record { flow = record { program = a.instance; sell = a.sell.items; spare = a.spare.items }; potentials = a.potentials.items }) × AreEnds a.instance a.network };
 }
 
 /// The price of each night.
@@ -69,12 +73,14 @@ impl Flow {
         let sell = vec![in alloc; 0u64; instance.stays() as usize]?;
         let spare = vec![in alloc; 0u64; nights]?;
         let mut potentials = vec![in alloc; 0u64; nights + 1]?;
+        let network = Network::of(alloc, &instance)?;
         level_potentials(&mut potentials, price);
         Ok(Flow {
             instance,
             sell,
             spare,
             potentials,
+            network,
         })
     }
 
@@ -86,11 +92,13 @@ impl Flow {
         let sell = Vec::from_slice(alloc, &self.sell)?;
         let spare = Vec::from_slice(alloc, &self.spare)?;
         let potentials = Vec::from_slice(alloc, &self.potentials)?;
+        let network = self.network.copy(alloc)?;
         Ok(Flow {
             instance,
             sell,
             spare,
             potentials,
+            network,
         })
     }
 
@@ -107,6 +115,14 @@ impl Flow {
         ensures { result ≡ arcs self.now.flow.program }
     {
         self.instance.stays() + self.instance.nights()
+    }
+
+    /// The hops that leave a node, with room or without.
+    pub fn hops_at(&self, node: u32) -> &[Hop]
+        requires { node ≤ length self.now.flow.program.rooms }
+        ensures { AreHopsAt self.now.flow.program node result.now }
+    {
+        self.network.hops_at(node)
     }
 
     /// An arc, with what it carries.

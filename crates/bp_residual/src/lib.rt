@@ -11,6 +11,7 @@ mod flow;
 mod hop;
 pub mod law;
 mod lift;
+mod network;
 mod rooms;
 
 pub use arc::ArcView;

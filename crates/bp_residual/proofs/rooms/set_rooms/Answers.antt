@@ -1,6 +1,6 @@
 use Rattle.std.proofs.Common.{ap, ◌∙◌, true, false, arith}
 use Rattle.bp_types.specs.Program.{Program}
-use Rattle.bp_residual.proofs.NightRooms.{night_moved}
+use Rattle.bp_residual.proofs.Changed.{night_moved}
 use Rattle.bp_residual.proofs.rooms.set_rooms.Goals as goal
 
 pub returns-then-now-rooms-clause-rooms : goal.returns-then-now-rooms-clause-rooms

@@ -17,11 +17,13 @@ invariant_of-result c =
     let items : (with_items c.in_ok-potentials.potentials pots).items ≡ pots = with_items_is c.in_ok-potentials.potentials pots small in
     let nights : length c.deref_mut.result.now - 1 ≡ length p.rooms = search rules in
     let L : ℕ → Type 0 = λ n. AreLevel n c.greatest_rate-price.result pots in
-    let P : List ℕ → Type 0 = λ xs. IsPriced (record { flow = record { program = p; sell = c.in_ok-sell.sell.items; spare = c.in_ok-spare.spare.items }; potentials = xs }) in
-    subst P (sym items) (empty_priced p c.in_ok-sell.sell.items c.in_ok-spare.spare.items pots c.greatest_rate-price.result c.clear_rooms.ensures.limits
-    (c.in_ok-sell.ensures.items_if_clones_equal (λ y e. e) ∙ ap (λ n. replicate n z) c.stays.ensures.value)
-    (c.in_ok-spare.ensures.items_if_clones_equal (λ y e. e) ∙ ap (λ n. replicate n z) c.nights-nights.ensures.value)
-    each (subst L nights c.level_potentials.ensures) c.greatest_rate-price.ensures.limit)
+    let P : List ℕ → Type 0 = λ xs. IsPriced (record { flow = record { program = p; sell = c.in_ok-sell.sell.items; spare = c.in_ok-spare.spare.items }; potentials = xs }) in (
+      subst P (sym items) (empty_priced p c.in_ok-sell.sell.items c.in_ok-spare.spare.items pots c.greatest_rate-price.result c.clear_rooms.ensures.limits
+          (c.in_ok-sell.ensures.items_if_clones_equal (λ y e. e) ∙ ap (λ n. replicate n z) c.stays.ensures.value)
+          (c.in_ok-spare.ensures.items_if_clones_equal (λ y e. e) ∙ ap (λ n. replicate n z) c.nights-nights.ensures.value)
+          each (subst L nights c.level_potentials.ensures) c.greatest_rate-price.ensures.limit),
+      c.in_ok-network.ensures,
+    )
 
 pub returns : goal.returns
 returns c =

@@ -6,3 +6,5 @@ pub mod PriceLemmas
 pub mod Duality
 pub mod LimitLemmas
 pub mod Unique
+pub mod Firsts
+pub mod HouseLemmas

@@ -8,3 +8,4 @@ pub mod Optimum
 pub mod Prices
 pub mod Displacement
 pub mod Laws
+pub mod House

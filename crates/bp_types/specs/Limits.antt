@@ -40,16 +40,20 @@ is_rate r = nat_le 1 r && nat_le r most_rate
 abbrev pub unless : Bool → InstanceError → Option InstanceError
 unless b e = if b then None else Some e
 
--- the limits in their order, each at its first place
-abbrev pub refusal : List ℕ → List Stay → Option InstanceError
-refusal rooms stays =
+-- the limits in their order, each at its first place, where a night has so many rooms at most
+abbrev pub refusal_above : ℕ → List ℕ → List Stay → Option InstanceError
+refusal_above most rooms stays =
     option_or (unless (nat_le 1 (length rooms)) NoNights)
     (option_or (unless (nat_le (length rooms) most_nights) TooManyNights)
     (option_or (unless (nat_le (length stays) most_stays) TooManyStays)
-    (option_or (option_map Rooms (position (λ r. nat_lt most_rooms r) rooms))
+    (option_or (option_map Rooms (position (λ r. nat_lt most r) rooms))
     (option_or (option_map SpanOut (position (λ s. not (is_within (length rooms) s.span)) stays))
     (option_or (option_map Rate (position (λ s. not (is_rate s.rate)) stays))
     (option_map Forecast (position (λ s. nat_lt most_forecast s.forecast) stays)))))))
+
+-- the limits of an instance in their order
+abbrev pub refusal : List ℕ → List Stay → Option InstanceError
+refusal rooms stays = refusal_above most_rooms rooms stays
 
 -- every value is within its limit
 pub record IsWithinLimits (p : Program) : Type 0 where

@@ -5,7 +5,7 @@ ghost use Rattle.bp_types.specs.Changes.{changed, Fits};
 ghost use Rattle.bp_types.specs.Prices.{SumUp};
 
 use crate::change::move_rooms;
-use crate::limits::refusal_of;
+use crate::limits::{MOST_ROOMS, refusal_of};
 use crate::prices::PriceSums;
 use crate::{Change, InstanceError, Memory, Stay};
 use std::alloc::Global;
@@ -38,10 +38,18 @@ impl Instance {
             (λ p. (p.rooms ≡ rooms.items) × (p.stays ≡ stays.items) × (refusal rooms.items stays.items ≡ None))
             (λ e. refusal rooms.items stays.items ≡ Some e) }
     {
-        match refusal_of(&rooms, &stays) {
+        match refusal_of(&rooms, &stays, MOST_ROOMS) {
             Some(error) => Err(error),
             None => Ok(Instance { rooms, stays }),
         }
+    }
+
+    /// The instance of rooms and stays that are known to keep to the limits.
+    pub fn within(rooms: Vec<u64>, stays: Vec<Stay>) -> Instance
+        requires { IsWithinLimits (record { rooms = rooms.items; stays = stays.items }) }
+        ensures { result ≡ record { rooms = rooms.items; stays = stays.items } }
+    {
+        Instance { rooms, stays }
     }
 
     /// How many nights there are.

@@ -7,6 +7,8 @@
 
 mod certificate;
 mod change;
+mod command;
+mod house;
 mod instance;
 pub mod law;
 mod limits;
@@ -17,6 +19,8 @@ mod steps;
 
 pub use certificate::Certificate;
 pub use change::Change;
+pub use command::{Command, Limits, Quoted};
+pub use house::{House, HouseError};
 pub use instance::Instance;
 pub use limits::InstanceError;
 pub use memory::Memory;

@@ -1,6 +1,6 @@
 ghost use Rattle.std.specs.Prelude.{◌≡◌, ◌<◌, ◌≤◌, length, nat_lt, not};
 ghost use Rattle.std.specs.List.{position};
-ghost use Rattle.bp_types.specs.Limits.{refusal, is_within, is_rate, most_rooms, most_forecast};
+ghost use Rattle.bp_types.specs.Limits.{refusal_above, is_within, is_rate, most_forecast};
 
 use crate::Stay;
 use thiserror::Error;
@@ -9,7 +9,7 @@ const MOST_NIGHTS: usize = 400;
 
 const MOST_STAYS: usize = 4_000;
 
-const MOST_ROOMS: u64 = 1_000_000;
+pub(crate) const MOST_ROOMS: u64 = 1_000_000;
 
 const MOST_RATE: u64 = 1_000_000_000;
 
@@ -24,8 +24,8 @@ pub enum InstanceError {
     TooManyNights,
     #[error("there are more than 4000 stays")]
     TooManyStays,
-    /// More than 1,000,000 units on this night.
-    #[error("night {night} has more than 1000000 units")]
+    /// More than 1,000,000 units on this night; of a house, more than 10,000 rooms.
+    #[error("night {night} has too many rooms")]
     Rooms { night: u32 },
     /// The stay has no night, or one past the last.
     #[error("stay {stay} is not within the nights")]
@@ -38,10 +38,10 @@ pub enum InstanceError {
     Forecast { stay: u32 },
 }
 
-fn night_with_too_many_rooms(rooms: &[u64]) -> Option<usize>
-    ensures { result ≡ position (λ r. nat_lt most_rooms r) rooms.now }
+fn night_with_too_many_rooms(rooms: &[u64], most: u64) -> Option<usize>
+    ensures { result ≡ position (λ r. nat_lt most r) rooms.now }
 {
-    rooms.iter().position(|r| *r > MOST_ROOMS)
+    rooms.iter().position(|r| *r > most)
 }
 
 fn stay_out_of_range(nights: usize, stays: &[Stay]) -> Option<usize>
@@ -64,9 +64,9 @@ fn stay_of_great_forecast(stays: &[Stay]) -> Option<usize>
     stays.iter().position(|s| s.forecast > MOST_FORECAST)
 }
 
-/// The first limit that rooms and stays break.
-pub(crate) fn refusal_of(rooms: &[u64], stays: &[Stay]) -> Option<InstanceError>
-    ensures { result ≡ refusal rooms.now stays.now }
+/// The first limit that rooms and stays break, where a night has so many rooms at most.
+pub(crate) fn refusal_of(rooms: &[u64], stays: &[Stay], most: u64) -> Option<InstanceError>
+    ensures { result ≡ refusal_above most rooms.now stays.now }
 {
     if rooms.is_empty() {
         return Some(InstanceError::NoNights);
@@ -77,7 +77,7 @@ pub(crate) fn refusal_of(rooms: &[u64], stays: &[Stay]) -> Option<InstanceError>
     if stays.len() > MOST_STAYS {
         return Some(InstanceError::TooManyStays);
     }
-    if let Some(night) = night_with_too_many_rooms(rooms) {
+    if let Some(night) = night_with_too_many_rooms(rooms, most) {
         return Some(InstanceError::Rooms {
             night: night as u32,
         });

@@ -1,0 +1,10 @@
+pub mod VerdictLemmas
+pub mod LoadLemmas
+pub mod NumberLemmas
+pub mod LineLemmas
+pub mod FormLemmas
+pub mod NextLemmas
+pub mod StageLemmas
+pub mod ProblemLemmas
+pub mod WholeLemmas
+pub mod ClaimLemmas

@@ -1,0 +1,56 @@
+-- From the lines of a text to its bytes.
+use Rattle.std.proofs.Common.{◌≡◌, ℕ, zero, suc, ◌+◌, ◌<◌, ◌≤◌, refl, ap, sym, subst, ◌∙◌, arith, List, [], ◌∷◌, ◌++◌, length, map, All}
+use Rattle.std.specs.Prelude.{Result, Ok, Err, codes}
+use Rattle.std.proofs.lemmas.List.{append-nil, map-append}
+use Rattle.std.proofs.lemmas.List.Elements.{All-append}
+use Rattle.bp_types.specs.declared.stay.Stay.{Stay}
+use Rattle.bp_cert.specs.declared.text_error.TextError.{TextError}
+use Rattle.bp_cert.specs.declared.text_error.TextError.TheVariants.{BadLine, Limit, TooShort, Trailing, Memory}
+use Rattle.bp_cert.specs.Lines.{Line, Given, GivesLine, text_of}
+use Rattle.bp_cert.specs.Reading.{GivesLines, IsReading, IsText, Spells, IsTrailed, start_of}
+use Rattle.bp_cert.specs.Texts.{stay_line, stay_numbers, head_lines, stay_lines, problem_lines, IsStayWithin, AreStaysWithin}
+use Rattle.bp_cert.proofs.StageLemmas.{one_more_line}
+
+-- one stay behind those so far
+pub one_stay_more : (nights : ℕ) (old mid new : Given) (done after : List Stay) (s : Stay) → after ≡ done ++ s ∷ [] → AreStaysWithin nights done → IsStayWithin nights (stay_numbers s) →
+    GivesLines old mid (map stay_line done) mid.rest → GivesLine mid new (stay_line s) → AreStaysWithin nights after × GivesLines old new (map stay_line after) new.rest
+one_stay_more nights old mid new done after s e all fine so_far gives =
+    let P : List Stay → Type 0 = λ ss. AreStaysWithin nights ss × GivesLines old new (map stay_line ss) new.rest in
+    let lines : map stay_line (done ++ s ∷ []) ≡ map stay_line done ++ stay_line s ∷ [] = map-append stay_line done (s ∷ []) in
+    let Q : List Line → Type 0 = λ ls. GivesLines old new ls new.rest in
+    subst P (sym e) (All-append (λ s. IsStayWithin nights (stay_numbers s)) done (s ∷ []) all one, subst Q (sym lines) (one_more_line old mid new (map stay_line done) (stay_line s) so_far gives))
+  where
+    one : All (λ s. IsStayWithin nights (stay_numbers s)) (s ∷ [])
+    one zero d h = fine
+    one (suc k) d h = absurd (omega arith)
+
+-- what was refused of the lines is refused of the text
+pub refused_text : {V : Type 0} (lines : V → List Line) (Within : V → Type 0) (bytes : List ℕ) (end : Given) (e : TextError) → IsReading lines Within (start_of bytes) end (Err e) → IsText lines Within bytes (Err e)
+refused_text lines Within bytes end (BadLine place) r = (end, r)
+refused_text lines Within bytes end (Limit place) r = (end, r)
+refused_text lines Within bytes end TooShort r = (end, r)
+refused_text lines Within bytes end (Trailing place) r = absurd r
+refused_text lines Within bytes end Memory r = tt
+
+-- the lines of a value, and nothing behind them
+pub whole_text : {V : Type 0} (lines : V → List Line) (Within : V → Type 0) (bytes : List ℕ) (end : Given) (v : V) → Spells lines Within (start_of bytes) end v → end.rest ≡ [] → IsText lines Within bytes (Ok v)
+whole_text lines Within bytes end v spells none = (spells.within, spells.gives.splits ∙ ap (λ r. text_of (lines v) ++ r) none ∙ append-nil (text_of (lines v)))
+
+-- the lines of a value, and something behind them
+pub trailed_text : {V : Type 0} (lines : V → List Line) (Within : V → Type 0) (bytes : List ℕ) (end : Given) (v : V) (e : TextError) → Spells lines Within (start_of bytes) end v → e ≡ Trailing (end.given + 1) → (end.rest ≡ [] → ⊥) →
+    IsText lines Within bytes (Err e)
+trailed_text lines Within bytes end v e spells is some =
+    let P : TextError → Type 0 = λ x. IsText lines Within bytes (Err x) in
+    let parts = cut end.rest some in
+    subst P (sym is) (record {
+      value = v;
+      within = spells.within;
+      byte = parts.0;
+      more = parts.1;
+      trails = spells.gives.splits ∙ ap (λ r. text_of (lines v) ++ r) parts.2;
+      counted = omega (arith, spells.gives.given);
+    })
+  where
+    cut : (rest : List ℕ) → (rest ≡ [] → ⊥) → (b : ℕ) × (more : List ℕ) × (rest ≡ b ∷ more)
+    cut [] some = absurd (some refl)
+    cut (b ∷ more) some = (b, more, refl)

@@ -1,0 +1,11 @@
+use Rattle.std.proofs.Common.{◌≡◌, ℕ, ◌<◌, length, slice_index}
+use Rattle.bp_cert.specs.Loads.{Counts, arriving_below, departing_below}
+use Rattle.bp_cert.proofs.loads.Moves.of.Given as goal
+
+-- the stays before this one are counted
+abbrev pub invariant-loop-stay : goal.invariant-loop-stay
+invariant-loop-stay l = record {
+  places : (length l.arrivals ≡ 401) × (length l.departures ≡ 401);
+  arrivals : Counts (arriving_below l.instance l.sell l.stay) l.arrivals;
+  departures : Counts (departing_below l.instance l.sell l.stay) l.departures;
+}

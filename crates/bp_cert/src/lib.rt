@@ -1,0 +1,14 @@
+//! Certificates: the checker, and the texts of problems and certificates.
+#![tactic(auto)]
+
+mod certificate_text;
+pub mod lines;
+mod loads;
+mod problem_text;
+mod text_error;
+mod verdict;
+
+pub use certificate_text::read_certificate;
+pub use problem_text::read_problem;
+pub use text_error::TextError;
+pub use verdict::{Verdict, check};

@@ -51,28 +51,16 @@ pub(crate) fn reforecast<L: Ledger>(
 {
     let terms = flow.stay(stay);
     let sold = flow.sold(stay);
-    let from = u128::from(flow.level(terms.span.from));
-    let to = u128::from(flow.level(terms.span.to));
+    let arrival = terms.span.from;
+    let departure = terms.span.to;
+    let from = u128::from(flow.level(arrival));
+    let to = u128::from(flow.level(departure));
     if value < sold {
         set_demand(flow, stay, value, value);
-        shift(
-            flow,
-            scratch,
-            terms.span.from,
-            terms.span.to,
-            sold - value,
-            steps,
-        );
+        shift(flow, scratch, arrival, departure, sold - value, steps);
     } else if from < to + u128::from(terms.rate) {
         set_demand(flow, stay, value, value);
-        shift(
-            flow,
-            scratch,
-            terms.span.to,
-            terms.span.from,
-            value - sold,
-            steps,
-        );
+        shift(flow, scratch, departure, arrival, value - sold, steps);
     } else {
         set_demand(flow, stay, value, sold);
     }

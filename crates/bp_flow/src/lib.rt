@@ -10,6 +10,10 @@ mod moves;
 mod rooms;
 mod settling;
 mod solver;
+#[cfg(test)]
+mod tests;
+mod threads;
 
 pub use moves::shift;
 pub use solver::Solver;
+pub use threads::solver_crosses_threads;

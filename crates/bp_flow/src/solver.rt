@@ -91,16 +91,10 @@ impl Solver {
         ensures solved { IsSolved self.new }
         ensures counted { CountsUpTo steps.old steps.new units }
     {
+        let Span { from, to } = span;
         let _nights = self.flow.nights();
         add_rooms(&mut self.flow, span, units);
-        shift(
-            &mut self.flow,
-            &mut self.scratch,
-            span.from,
-            span.to,
-            units,
-            steps,
-        );
+        shift(&mut self.flow, &mut self.scratch, from, to, units, steps);
         let _nights = self.flow.nights();
     }
 
@@ -111,16 +105,10 @@ impl Solver {
         ensures solved { IsSolved self.new }
         ensures counted { CountsUpTo steps.old steps.new units }
     {
+        let Span { from, to } = span;
         let _nights = self.flow.nights();
         take_rooms(&mut self.flow, span, units);
-        shift(
-            &mut self.flow,
-            &mut self.scratch,
-            span.to,
-            span.from,
-            units,
-            steps,
-        );
+        shift(&mut self.flow, &mut self.scratch, to, from, units, steps);
         let _nights = self.flow.nights();
     }
 

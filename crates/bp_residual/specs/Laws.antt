@@ -55,12 +55,13 @@ PathsExist =
 abbrev pub GrowsAlong : Flow → (ℕ → ℕ) → (ℕ → ℕ) → Type 0
 GrowsAlong f u by = (s : Step) → Admits f s 1 → by (head f.program s) ≤ by (tail f.program s) + reduced_cost f.program u s
 
--- no residual path is shorter than the growth; one of that length has reduced costs 0 after the lift
+-- no residual path is shorter than the growth
 abbrev pub GrowthBoundsPaths : Type 0
 GrowthBoundsPaths =
     (f : Flow) (u by : ℕ → ℕ) (a b : ℕ) (path : List Step) →
     GrowsAlong f u by → IsPath f a b path → by b ≤ by a + path_cost f.program u path
 
+-- a residual path as long as the growth has reduced costs 0 after the lift
 abbrev pub ShortestPathsBecomeTight : Type 0
 ShortestPathsBecomeTight =
     (f : Flow) (u by lifted : ℕ → ℕ) (c a b : ℕ) (path : List Step) →

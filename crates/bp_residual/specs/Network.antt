@@ -19,12 +19,14 @@ pub data Step : Type 0 where
   spare_more : ℕ → Step
   spare_less : ℕ → Step
 
+-- the node that a step leaves
 abbrev pub tail : Program → Step → ℕ
 tail p (sell_more j) = (stay_at p j).span.from
 tail p (sell_less j) = (stay_at p j).span.to
 tail p (spare_more n) = n
 tail p (spare_less n) = n + 1
 
+-- the node that a step reaches
 abbrev pub head : Program → Step → ℕ
 head p (sell_more j) = (stay_at p j).span.to
 head p (sell_less j) = (stay_at p j).span.from
@@ -38,13 +40,14 @@ Admits f (sell_less j) units = (j < length f.program.stays) × (units ≤ slice_
 Admits f (spare_more n) units = n < length f.program.rooms
 Admits f (spare_less n) units = (n < length f.program.rooms) × (units ≤ slice_index f.spare n)
 
--- the revenue that a unit over the step brings, and that it gives up
+-- the revenue that a unit over the step brings
 abbrev pub gain : Program → Step → ℕ
 gain p (sell_more j) = (stay_at p j).rate
 gain p (sell_less j) = 0
 gain p (spare_more n) = 0
 gain p (spare_less n) = 0
 
+-- the revenue that a unit over the step gives up
 abbrev pub loss : Program → Step → ℕ
 loss p (sell_more j) = 0
 loss p (sell_less j) = (stay_at p j).rate
@@ -55,6 +58,7 @@ loss p (spare_less n) = 0
 abbrev pub IsNonNegative : Program → (ℕ → ℕ) → Step → Type 0
 IsNonNegative p u s = u (head p s) + gain p s ≤ u (tail p s) + loss p s
 
+-- the reduced cost of the step, where it is not negative
 abbrev pub reduced_cost : Program → (ℕ → ℕ) → Step → ℕ
 reduced_cost p u s = (u (tail p s) + loss p s) - (u (head p s) + gain p s)
 
@@ -72,31 +76,35 @@ abbrev pub path_cost : Program → (ℕ → ℕ) → List Step → ℕ
 path_cost p u [] = 0
 path_cost p u (s ∷ ss) = reduced_cost p u s + path_cost p u ss
 
--- what is sold, and what is spare, after so many units over a step
+-- what is sold after so many units over a step
 abbrev pub sell_after : List ℕ → Step → ℕ → List ℕ
 sell_after sell (sell_more j) units = slice_set sell j (slice_index sell j + units)
 sell_after sell (sell_less j) units = slice_set sell j (slice_index sell j - units)
 sell_after sell (spare_more n) units = sell
 sell_after sell (spare_less n) units = sell
 
+-- what is spare after so many units over a step
 abbrev pub spare_after : List ℕ → Step → ℕ → List ℕ
 spare_after spare (sell_more j) units = spare
 spare_after spare (sell_less j) units = spare
 spare_after spare (spare_more n) units = slice_set spare n (slice_index spare n + units)
 spare_after spare (spare_less n) units = slice_set spare n (slice_index spare n - units)
 
+-- what is sold after so many units along a path
 abbrev pub sell_along : List ℕ → List Step → ℕ → List ℕ
 sell_along sell [] units = sell
 sell_along sell (s ∷ ss) units = sell_along (sell_after sell s units) ss units
 
+-- what is spare after so many units along a path
 abbrev pub spare_along : List ℕ → List Step → ℕ → List ℕ
 spare_along spare [] units = spare
 spare_along spare (s ∷ ss) units = spare_along (spare_after spare s units) ss units
 
--- the flow after so many units over a step, and along a path
+-- the flow after so many units over a step
 abbrev pub pushed : Flow → Step → ℕ → Flow
 pushed f s units = record { program = f.program; sell = sell_after f.sell s units; spare = spare_after f.spare s units }
 
+-- the flow after so many units along a path
 abbrev pub pushed_along : Flow → List Step → ℕ → Flow
 pushed_along f path units = record { program = f.program; sell = sell_along f.sell path units; spare = spare_along f.spare path units }
 
@@ -114,15 +122,17 @@ Joins p a b (s ∷ ss) = (tail p s ≡ a) × Joins p (head p s) b ss
 abbrev pub IsTight : Program → (ℕ → ℕ) → Step → Type 0
 IsTight p u s = u (head p s) + gain p s ≡ u (tail p s) + loss p s
 
+-- each step of the path has reduced cost 0
 abbrev pub AreTight : Program → (ℕ → ℕ) → List Step → Type 0
 AreTight p u [] = Unit {0}
 AreTight p u (s ∷ ss) = IsTight p u s × AreTight p u ss
 
--- what a path brings, and what it gives up
+-- what a path brings
 abbrev pub path_gain : Program → List Step → ℕ
 path_gain p [] = 0
 path_gain p (s ∷ ss) = gain p s + path_gain p ss
 
+-- what a path gives up
 abbrev pub path_loss : Program → List Step → ℕ
 path_loss p [] = 0
 path_loss p (s ∷ ss) = loss p s + path_loss p ss
@@ -151,13 +161,12 @@ pub record IsFlow (f : Flow) : Type 0 where
   pub one_each_night : length f.spare ≡ length f.program.rooms
   pub within_forecast : (j : ℕ) → j < length f.program.stays → slice_index f.sell j ≤ (stay_at f.program j).forecast
 
--- ---- what contracts see of a flow with its potentials
-
 -- a flow, and a potential for each node
 pub record Priced : Type 0 where
   pub flow : Flow
   pub potentials : List ℕ
 
+-- the greatest spare number of a night
 abbrev pub greatest_spare : ℕ
 greatest_spare = 1000000000000
 
@@ -168,6 +177,7 @@ pub record ArePotentials (nights : ℕ) (potentials : List ℕ) : Type 0 where
   pub falls : (n : ℕ) → n < nights → slice_index potentials (n + 1) ≤ slice_index potentials n
   pub within_limit : (n : ℕ) → n < nights → slice_index potentials n ≤ slice_index potentials (n + 1) + greatest_price
 
+-- every value is within its limit, and the lists belong together
 pub record IsPriced (f : Priced) : Type 0 where
   pub limits : IsWithinLimits f.flow.program
   pub flow : IsFlow f.flow
@@ -181,6 +191,7 @@ step_of p h =
     then (if h.forward then sell_more h.arc else sell_less h.arc)
     else (if h.forward then spare_more (h.arc - length p.stays) else spare_less (h.arc - length p.stays))
 
+-- the residual steps of a path of hops
 abbrev pub steps_of : Program → List Hop → List Step
 steps_of p hops = map (step_of p) hops
 

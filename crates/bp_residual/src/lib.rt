@@ -13,6 +13,8 @@ pub mod law;
 mod lift;
 mod network;
 mod rooms;
+#[cfg(test)]
+mod tests;
 
 pub use arc::ArcView;
 pub use flow::Flow;

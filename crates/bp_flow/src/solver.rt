@@ -181,6 +181,13 @@ impl Solver {
         self.flow.nights()
     }
 
+    /// How many stays there are.
+    pub fn stays(&self) -> u32
+        ensures { result ≡ length self.now.flow.program.stays }
+    {
+        self.flow.stays()
+    }
+
     /// The rooms of a night, in units.
     pub fn rooms(&self, night: u32) -> u64
         requires { night < length self.now.flow.program.rooms }

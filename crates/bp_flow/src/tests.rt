@@ -121,6 +121,40 @@ const RESTARTS: [(Change, u128, [u64; 4], [u64; 3]); 3] = [
     ),
 ];
 
+fn lowered<L: Ledger>(solver: &mut Solver, span: Span, units: u64, steps: &mut Steps<L>) -> bool {
+    let Span { from, to } = span;
+    if from >= to || to > solver.nights() || to - from > 1 || units > solver.rooms(from) {
+        return false;
+    }
+    solver.lower(span, units, steps);
+    true
+}
+
+fn demanded<L: Ledger>(solver: &mut Solver, stay: u32, value: u64, steps: &mut Steps<L>) -> bool {
+    if stay >= solver.stays() || value > 1_000_000 {
+        return false;
+    }
+    solver.demand(stay, value, steps);
+    true
+}
+
+fn repriced<L: Ledger>(solver: &mut Solver, stay: u32, value: u64, steps: &mut Steps<L>) -> bool {
+    if stay >= solver.stays() || value == 0 || value > 1_000_000_000 {
+        return false;
+    }
+    solver.reprice(stay, value, steps);
+    true
+}
+
+/// Makes a change that takes rooms of one night, or sets a number; answers whether it fits.
+fn changed<L: Ledger>(solver: &mut Solver, change: Change, steps: &mut Steps<L>) -> bool {
+    match change {
+        Change::Rooms { span, up, units } => !up && lowered(solver, span, units, steps),
+        Change::Demand { stay, value } => demanded(solver, stay, value, steps),
+        Change::Rate { stay, value } => repriced(solver, stay, value, steps),
+    }
+}
+
 /// The certificate of a copy of a cold solver after a change; None where the change does not fit.
 fn restarted<L: Ledger>(
     alloc: Global,
@@ -134,29 +168,9 @@ fn restarted<L: Ledger>(
 {
     let mut steps: Steps<L> = Steps::new(blank);
     let cold = Solver::cold(alloc, instance, &mut steps)?;
-    let stays = instance.stays();
-    let nights = instance.nights();
     let mut solver = cold.copy(alloc)?;
-    match change {
-        Change::Rooms { span, up, units } => {
-            let Span { from, to } = span;
-            if up || to > nights || from >= to || to - from > 1 || units > solver.rooms(from) {
-                return Ok(None);
-            }
-            solver.lower(span, units, &mut steps);
-        }
-        Change::Demand { stay, value } => {
-            if stay >= stays || value > 1_000_000 {
-                return Ok(None);
-            }
-            solver.demand(stay, value, &mut steps);
-        }
-        Change::Rate { stay, value } => {
-            if stay >= stays || value == 0 || value > 1_000_000_000 {
-                return Ok(None);
-            }
-            solver.reprice(stay, value, &mut steps);
-        }
+    if !changed(&mut solver, change, &mut steps) {
+        return Ok(None);
     }
     solver.settle(&mut steps);
     let certificate = solver.certificate(alloc)?;

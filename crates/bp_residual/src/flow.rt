@@ -110,6 +110,13 @@ impl Flow {
         self.instance.nights()
     }
 
+    /// How many stays there are.
+    pub fn stays(&self) -> u32
+        ensures { result ≡ length self.now.flow.program.stays }
+    {
+        self.instance.stays()
+    }
+
     /// How many arcs there are: the stays, and a free arc for each night.
     pub fn arcs(&self) -> u32
         ensures { result ≡ arcs self.now.flow.program }

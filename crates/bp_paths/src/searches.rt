@@ -54,6 +54,7 @@ impl Scratch {
         let kept = vec![in alloc; u128::MAX; size]?;
         let rank = vec![in alloc; 0u32; size]?;
         let via = vec![in alloc; none; size]?;
+        let queue = vec![in alloc; 0u32; size]?;
         let slots = vec![in alloc; none; size]?;
         Ok(Scratch {
             labels: Labels {
@@ -62,6 +63,8 @@ impl Scratch {
                 kept,
                 rank,
                 via,
+                queue,
+                waiting: 0,
             },
             slots,
             start: size,

@@ -1,18 +1,17 @@
 -- The text of a certificate, line by line.
-use Rattle.std.proofs.Common.{◌≡◌, ℕ, zero, suc, ◌+◌, ◌<◌, ◌≤◌, ◌^◌, refl, ap, sym, subst, ◌∙◌, arith, List, [], ◌∷◌, ◌++◌, length, All, slice_index, append_assoc, length-append}
-use Rattle.std.specs.Prelude.{codes, Result, Ok, Err}
+use Rattle.std.proofs.Common.{◌≡◌, ℕ, zero, suc, ◌<◌, ◌≤◌, ◌^◌, refl, ap, sym, subst, ◌∙◌, arith, List, [], ◌∷◌, ◌++◌, length, All, append_assoc, length-append}
+use Rattle.std.specs.Prelude.{codes, Err}
 use Rattle.std.proofs.lemmas.List.{append-nil}
 use Rattle.bp_types.specs.Claim.{Claim}
-use Rattle.bp_cert.specs.declared.lines.form.Bounds.{Bounds}
 use Rattle.bp_cert.specs.declared.text_error.TextError.{TextError}
 use Rattle.bp_cert.specs.declared.text_error.TextError.TheVariants.{BadLine, Limit, TooShort, Trailing, Memory}
-use Rattle.bp_cert.specs.Lines.{Line, Given, GivesLine, line_of}
+use Rattle.bp_cert.specs.Lines.{Line, Given, line_of}
 use Rattle.bp_cert.specs.Forms.{AreWithin}
-use Rattle.bp_cert.specs.Reading.{Begins, HasForm, IsRight, GivesLines, IsReading, Spells}
-use Rattle.bp_cert.specs.Texts.{claim_lines, certificate_lines, IsSpeakable, IsWord}
+use Rattle.bp_cert.specs.Reading.{Begins, GivesLines, IsReading}
+use Rattle.bp_cert.specs.Texts.{claim_lines, certificate_lines, IsSpeakable}
 use Rattle.bp_cert.proofs.LineLemmas.{line_injective}
 use Rattle.bp_cert.proofs.NextLemmas.{only_number}
-use Rattle.bp_cert.proofs.StageLemmas.{IsStage, more_lines, one_more_line}
+use Rattle.bp_cert.proofs.StageLemmas.{IsStage, more_lines}
 
 heads : (a b : Line) (xs ys : List Line) → a ∷ xs ≡ b ∷ ys → a ≡ b
 heads a b xs ys e = cc

@@ -1,5 +1,5 @@
 -- Numbers found from left to right: what was seen, and what is left.
-use Rattle.std.proofs.Common.{◌≡◌, ℕ, zero, suc, ◌+◌, ◌-◌, ◌<◌, ◌≤◌, ap, subst, ◌∙◌, sym, refl, arith, Bool, false, ◌==◌, List, [], ◌∷◌, ◌++◌, length, All, get_or, slice_index, append_assoc, ◌⊎◌, inl, inr, length-append, take, drop, drop-cons}
+use Rattle.std.proofs.Common.{◌≡◌, ℕ, zero, suc, ◌+◌, ◌-◌, ◌<◌, ◌≤◌, ap, subst, ◌∙◌, sym, refl, arith, Bool, false, ◌==◌, List, [], ◌∷◌, ◌++◌, length, All, get_or, slice_index, append_assoc, inl, inr, length-append, take, drop, drop-cons}
 use Rattle.std.proofs.lemmas.List.{append-nil, append_cancel_left, get_or_default, get_or-take, length-take-le, take-append-drop, drop_all, get_or_append_left, get_or-append_right}
 use Rattle.std.proofs.lemmas.List.Elements.{All-append}
 use Rattle.std.proofs.lemmas.Grind.{flat_map-append}

@@ -8,3 +8,6 @@ pub mod StageLemmas
 pub mod ProblemLemmas
 pub mod WholeLemmas
 pub mod ClaimLemmas
+pub mod SpellingLemmas
+pub mod OneWayLemmas
+pub mod KindLemmas

@@ -1,6 +1,5 @@
 -- Lines of words and numbers: what they spell can be told from the bytes.
-use Rattle.std.proofs.Common.{◌≡◌, ℕ, zero, suc, ◌+◌, ◌<◌, ◌≤◌, ap, subst, ◌∙◌, sym, refl, arith, true, false, Bool, List, [], ◌∷◌, ◌++◌, length, All, get_or, slice_index, append_assoc, ◌⊎◌, inl, inr, length-append}
-use Rattle.std.specs.List.{flat_map}
+use Rattle.std.proofs.Common.{◌≡◌, ℕ, zero, suc, ◌<◌, ap, ◌∙◌, sym, refl, arith, List, [], ◌∷◌, ◌++◌, All, get_or, inl, inr}
 use Rattle.std.proofs.lemmas.List.{append_cancel_left, get_or_default}
 use Rattle.std.proofs.lemmas.List.Elements.{All-append}
 use Rattle.bp_cert.specs.Numbers.{spelled}

@@ -1,14 +1,14 @@
 -- Loads from arrivals and departures.
-use Rattle.std.proofs.Common.{◌≡◌, ℕ, zero, suc, ◌+◌, ◌-◌, ◌*◌, ◌^◌, ◌<◌, ◌≤◌, ap, ◌∙◌, sym, refl, arith, Bool, true, false, cond, ◌==◌, List, length, slice_index, set, get_or-set_same, get_or-set_other, inl, inr}
-use Rattle.std.proofs.lemmas.Bool.{cases_lt, cases_eq, cond-true, cond-false, eq-eqb, ne_eqb}
+use Rattle.std.proofs.Common.{◌≡◌, ℕ, zero, suc, ◌+◌, ◌*◌, ◌^◌, ◌<◌, ◌≤◌, ap, ◌∙◌, sym, arith, Bool, true, false, cond, ◌==◌, List, length, slice_index, set, get_or-set_same, get_or-set_other, inl, inr}
+use Rattle.std.proofs.lemmas.Bool.{cases_eq, cond-true, cond-false, eq-eqb, ne_eqb}
 use Rattle.std.proofs.lemmas.Bool.Decides.{nat_tests}
 use Rattle.bp_types.specs.declared.stay.Stay.{Stay}
 use Rattle.bp_types.specs.Sums.{sum_below}
 use Rattle.bp_types.specs.Program.{Program, stay_at, no_stay, covers, load}
 use Rattle.bp_types.specs.Limits.{IsWithinLimits}
-use Rattle.bp_types.proofs.SumLemmas.{sum_below-cong, sum_below-le, sum_below-add}
+use Rattle.bp_types.proofs.SumLemmas.{sum_below-cong, sum_below-add}
 use Rattle.bp_cert.specs.Verdicts.{NoneAbove}
-use Rattle.bp_cert.specs.Loads.{arriving, departing, arriving_below, departing_below}
+use Rattle.bp_cert.specs.Loads.{arriving, departing}
 
 -- one stay: who sleeps here tonight or departs this morning slept here last night or arrives today
 one_stay_moves : (a b n y : ℕ) → a < b →

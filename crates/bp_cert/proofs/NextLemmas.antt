@@ -1,12 +1,12 @@
 -- Lines with a wrong count of numbers.
-use Rattle.std.proofs.Common.{◌≡◌, ℕ, zero, suc, ◌<◌, ◌≤◌, All, [], ◌∷◌, ◌++◌, drop, slice_index, get_or, refl, ◌∙◌, ap, sym, subst, arith, Bool, true, false, cond, ◌==◌, List, length, inl, inr}
+use Rattle.std.proofs.Common.{◌≡◌, ℕ, ◌<◌, ◌≤◌, All, [], ◌∷◌, ◌++◌, drop, slice_index, refl, ◌∙◌, ap, sym, subst, arith, Bool, cond, ◌==◌, List, length, inl, inr}
 use Rattle.std.specs.Prelude.{Err}
 use Rattle.std.proofs.lemmas.List.{append-nil, append_cancel_left}
 use Rattle.std.proofs.lemmas.Bool.{cases_Bool, eqb-true, eqb-false}
 use Rattle.bp_cert.specs.declared.lines.form.Bounds.{Bounds}
 use Rattle.bp_cert.specs.declared.text_error.TextError.{TextError}
 use Rattle.bp_cert.specs.declared.text_error.TextError.TheVariants.{BadLine, Limit}
-use Rattle.bp_cert.specs.Lines.{Line, Given, GivesLine, line_of, numbers_text}
+use Rattle.bp_cert.specs.Lines.{Line, Given, GivesLine, line_of}
 use Rattle.bp_cert.specs.Forms.{AreWithin, IsLine, IsBadLine, IsBeyond, IsNumberBehind}
 use Rattle.bp_cert.specs.declared.lines.word.Number.{Number}
 use Rattle.bp_cert.specs.declared.lines.word.Number.TheVariants.{Bad, Great, Value}

@@ -1,13 +1,12 @@
 -- Numbers and their digits.
-use Rattle.std.proofs.Common.{◌≡◌, ℕ, zero, suc, ◌+◌, ◌-◌, ◌*◌, ◌/◌, ◌%◌, ◌^◌, ◌<◌, ◌≤◌, ap, subst, ◌∙◌, sym, refl, arith, Bool, true, false, cond, ◌==◌, List, [], ◌∷◌, ◌++◌, length, map, take, get_or, slice_index, Option, Some, None, inl, inr, length-append}
+use Rattle.std.proofs.Common.{◌≡◌, ℕ, zero, suc, ◌+◌, ◌-◌, ◌*◌, ◌/◌, ◌%◌, ◌^◌, ◌<◌, ◌≤◌, ap, subst, ◌∙◌, sym, refl, arith, List, [], ◌∷◌, ◌++◌, length, map, take, get_or, slice_index, Option, Some, None, inl, inr, length-append}
 use Rattle.std.specs.Fmt.{decimal}
-use Rattle.std.specs.List.{AllByRecursion}
 use Rattle.std.specs.Int.Digits.{digits_of, number_from_digits, AllBelowBase}
 use Rattle.std.proofs.Math.ListN.{length-map}
-use Rattle.std.proofs.lemmas.Bool.{cases_lt, cases_eq, cond-true, cond-false, eq-eqb, ne_eqb}
+use Rattle.std.proofs.lemmas.Bool.{cases_lt, cond-false, ne_eqb}
 use Rattle.std.proofs.lemmas.List.{get_or-map, take_more, take_all, map-append}
 use Rattle.std.proofs.lemmas.Fmt.{decimal_by_steps_wide}
-use Rattle.std.proofs.lemmas.Int.Digits.{digits_of_step, number_more, number_digits_of, same_from_digits_of, first_digits_of, all_below_base_digits_of}
+use Rattle.std.proofs.lemmas.Int.Digits.{digits_of_step, number_more, same_from_digits_of, first_digits_of, all_below_base_digits_of}
 use Rattle.std.specs.Option.{MatchOption}
 use Rattle.bp_cert.specs.Numbers.{spelled, IsGreaterBy}
 

@@ -1,17 +1,14 @@
 -- The text of a problem, line by line.
 use Rattle.std.proofs.Common.{◌≡◌, ℕ, zero, suc, ◌+◌, ◌-◌, ◌<◌, ◌≤◌, refl, ap, sym, subst, ◌∙◌, arith, List, [], ◌∷◌, ◌++◌, length, map, All, get_or, slice_index, append_assoc, length-append}
 use Rattle.std.specs.Prelude.{codes, replicate}
-use Rattle.std.proofs.Math.ListN.{length-map}
 use Rattle.std.proofs.lemmas.List.{append-nil, length-replicate, get_or-replicate, map-append}
 use Rattle.std.proofs.lemmas.List.Elements.{All-append}
 use Rattle.bp_types.specs.declared.stay.Stay.{Stay}
 use Rattle.bp_types.specs.Program.{Program, no_stay}
-use Rattle.bp_types.specs.Limits.{IsWithinLimits, most_rate, most_forecast, most_nights, most_stays}
-use Rattle.bp_types.specs.House.{most_house_rooms}
-use Rattle.bp_cert.specs.declared.lines.form.Bounds.{Bounds}
+use Rattle.bp_types.specs.Limits.{most_nights}
 use Rattle.bp_cert.specs.Lines.{Line, Given, GivesLine, line_of}
 use Rattle.bp_cert.specs.Forms.{AreWithin}
-use Rattle.bp_cert.specs.Reading.{Begins, HasForm, GivesLines, Spells}
+use Rattle.bp_cert.specs.Reading.{GivesLines, Spells}
 use Rattle.bp_cert.specs.Texts.{stay_numbers, stay_line, head_lines, stay_lines, problem_lines, IsProblem, IsStayWithin, AreStaysWithin, IsHead}
 use Rattle.bp_cert.proofs.LineLemmas.{line_injective}
 use Rattle.bp_cert.proofs.NextLemmas.{only_number}
@@ -203,7 +200,7 @@ stage_count n rooms head each =
     one_fine k fine (suc i) d h = absurd (omega arith)
 
 -- what a text that begins with a head says of its problem
-head_known : (v : Program) (rooms : List ℕ) (count : ℕ) (rest : List Line) → problem_lines v ≡ head_lines rooms count ++ rest → (v.rooms ≡ rooms) × (length v.stays ≡ count) × (stay_lines v.stays ≡ rest)
+pub head_known : (v : Program) (rooms : List ℕ) (count : ℕ) (rest : List Line) → problem_lines v ≡ head_lines rooms count ++ rest → (v.rooms ≡ rooms) × (length v.stays ≡ count) × (stay_lines v.stays ≡ rest)
 head_known v rooms count rest e =
     let known = stays_known v (length rooms) rooms (count_line count ∷ rest) e in
     (known.0, one_number (codes "stays") (length v.stays) count (heads (count_line (length v.stays)) (count_line count) (stay_lines v.stays) rest known.1), tails (count_line (length v.stays)) (count_line count) (stay_lines v.stays) rest known.1)

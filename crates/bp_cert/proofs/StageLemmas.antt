@@ -1,13 +1,13 @@
 -- From one line of a text to the whole: what a line's refusal says of the text that it stands in.
-use Rattle.std.proofs.Common.{◌≡◌, ℕ, zero, suc, ◌+◌, ◌<◌, ◌≤◌, refl, ap, sym, subst, ◌∙◌, arith, List, [], ◌∷◌, ◌++◌, length, append_assoc, length-append}
-use Rattle.std.specs.Prelude.{Result, Ok, Err}
+use Rattle.std.proofs.Common.{◌≡◌, ℕ, refl, ap, sym, subst, ◌∙◌, arith, List, [], ◌∷◌, ◌++◌, append_assoc, length-append}
+use Rattle.std.specs.Prelude.{Err}
 use Rattle.std.proofs.lemmas.List.{append-nil}
 use Rattle.std.proofs.lemmas.Grind.{flat_map-append}
 use Rattle.bp_cert.specs.declared.text_error.TextError.{TextError}
 use Rattle.bp_cert.specs.declared.text_error.TextError.TheVariants.{BadLine, Limit, TooShort, Trailing, Memory}
-use Rattle.bp_cert.specs.Lines.{Line, Given, GivesLine, HasNoEnd, line_of, text_of}
+use Rattle.bp_cert.specs.Lines.{Line, Given, GivesLine, line_of, text_of}
 use Rattle.bp_cert.specs.Forms.{IsLine}
-use Rattle.bp_cert.specs.Reading.{Begins, HasForm, IsRight, GivesLines, IsReading, BreaksForm, BreaksLimit, EndsShort}
+use Rattle.bp_cert.specs.Reading.{Begins, HasForm, GivesLines, IsReading, EndsShort}
 
 pub text_of-append : (xs ys : List Line) → text_of (xs ++ ys) ≡ text_of xs ++ text_of ys
 text_of-append xs ys = flat_map-append (λ line. line ++ 10 ∷ []) xs ys

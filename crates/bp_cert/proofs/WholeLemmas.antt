@@ -1,14 +1,14 @@
 -- From the lines of a text to its bytes.
-use Rattle.std.proofs.Common.{◌≡◌, ℕ, zero, suc, ◌+◌, ◌<◌, ◌≤◌, refl, ap, sym, subst, ◌∙◌, arith, List, [], ◌∷◌, ◌++◌, length, map, All}
-use Rattle.std.specs.Prelude.{Result, Ok, Err, codes}
+use Rattle.std.proofs.Common.{◌≡◌, ℕ, zero, suc, ◌+◌, refl, ap, sym, subst, ◌∙◌, arith, List, [], ◌∷◌, ◌++◌, map, All}
+use Rattle.std.specs.Prelude.{Ok, Err}
 use Rattle.std.proofs.lemmas.List.{append-nil, map-append}
 use Rattle.std.proofs.lemmas.List.Elements.{All-append}
 use Rattle.bp_types.specs.declared.stay.Stay.{Stay}
 use Rattle.bp_cert.specs.declared.text_error.TextError.{TextError}
 use Rattle.bp_cert.specs.declared.text_error.TextError.TheVariants.{BadLine, Limit, TooShort, Trailing, Memory}
 use Rattle.bp_cert.specs.Lines.{Line, Given, GivesLine, text_of}
-use Rattle.bp_cert.specs.Reading.{GivesLines, IsReading, IsText, Spells, IsTrailed, start_of}
-use Rattle.bp_cert.specs.Texts.{stay_line, stay_numbers, head_lines, stay_lines, problem_lines, IsStayWithin, AreStaysWithin}
+use Rattle.bp_cert.specs.Reading.{GivesLines, IsReading, IsText, Spells, start_of}
+use Rattle.bp_cert.specs.Texts.{stay_line, stay_numbers, IsStayWithin, AreStaysWithin}
 use Rattle.bp_cert.proofs.StageLemmas.{one_more_line}
 
 -- one stay behind those so far

@@ -1,6 +1,5 @@
 -- The load of a night, by who arrives and who departs.
 use Rattle.std.specs.Prelude.{◌≡◌, ℕ, ◌<◌, ◌==◌, if◌then◌else◌, List, length, slice_index}
-use Rattle.bp_types.specs.declared.stay.Stay.{Stay}
 use Rattle.bp_types.specs.Sums.{sum_below}
 use Rattle.bp_types.specs.Program.{Program, stay_at, load}
 

@@ -1,5 +1,5 @@
 -- The texts of problems and certificates, line by line.
-use Rattle.std.specs.Prelude.{◌≡◌, ℕ, ◌^◌, ◌<◌, ◌≤◌, List, [], ◌∷◌, ◌++◌, length, map, slice_index, All, codes}
+use Rattle.std.specs.Prelude.{ℕ, ◌^◌, ◌<◌, ◌≤◌, List, [], ◌∷◌, ◌++◌, length, map, slice_index, All, codes}
 use Rattle.bp_types.specs.declared.stay.Stay.{Stay}
 use Rattle.bp_types.specs.Program.{Program}
 use Rattle.bp_types.specs.Limits.{IsWithinLimits, most_nights, most_stays, most_rate, most_forecast}

@@ -1,11 +1,16 @@
-ghost use Rattle.std.specs.Prelude.{◌+◌, ◌≤◌};
+ghost use Rattle.std.specs.Prelude.{◌+◌, ◌≤◌, IsErrOf};
+ghost use Rattle.bp_edges.specs.Counts.{Rose};
+ghost use Rattle.bp_edges.specs.Writing.{Writes};
 ghost use Rattle.bp_cert.specs.Reading.{IsReading, IsText};
-ghost use Rattle.bp_cert.specs.Texts.{claim_lines, certificate_lines as all_lines, IsSpeakable};
+ghost use Rattle.bp_cert.specs.Texts.{claim_lines, certificate_lines as all_lines, certificate_text, IsSpeakable};
 
 use crate::TextError;
 use crate::lines::Lines;
 use crate::lines::form::Bounds;
 use crate::lines::next::{at_end, open_line, wide_number_line, word_line};
+use crate::lines::spell::push_line;
+use crate::lines::write::{push_claim, write_text};
+use bp_edges::{Sink, WriteError};
 use bp_types::Certificate;
 use std::alloc::Global;
 
@@ -58,4 +63,23 @@ pub fn read_certificate(alloc: Global, bytes: &[u8]) -> Result<Certificate, Text
     let certificate = read_lines(alloc, &mut lines)?;
     at_end(&lines)?;
     Ok(certificate)
+}
+
+/// Writes the text of a certificate.
+pub fn write_certificate<K: Sink>(
+    alloc: Global,
+    certificate: &Certificate,
+    out: &mut K,
+) -> Result<(), WriteError>
+    ensures writes { Writes (K.written out.old) (K.written out.new) (certificate_text certificate.now) result }
+    ensures failed { IsErrOf result WriteError.Failed → Rose (K.faults out.old) (K.faults out.new) }
+    ensures unfailing { K.steady out.old → ¬ IsErrOf result WriteError.Failed }
+    ensures steady { K.steady out.old → K.steady out.new }
+    ensures faults { K.faults out.old ≤ K.faults out.new }
+{
+    let mut text = Vec::new(alloc);
+    push_line(&mut text, b"certificate 1", &[])?;
+    push_claim(&mut text, certificate)?;
+    push_line(&mut text, b"end", &[])?;
+    write_text(alloc, &text, out)
 }

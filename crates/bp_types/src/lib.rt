@@ -16,6 +16,8 @@ mod memory;
 mod prices;
 mod stay;
 mod steps;
+#[cfg(test)]
+mod tests;
 
 pub use certificate::Certificate;
 pub use change::Change;

@@ -3,7 +3,7 @@ ghost use Rattle.bp_cert.specs.Lines.{Given, HasNoEnd, GivesLine};
 
 use std::marker::Model;
 
-const LINE_END: u8 = 10;
+pub(crate) const LINE_END: u8 = 10;
 
 /// The lines of a text, given one by one.
 ///

@@ -1,6 +1,5 @@
-use Rattle.std.proofs.Common.{subst, sym}
+use Rattle.std.proofs.Common.{subst}
 use Rattle.std.proofs.lemmas.Result.{err_from_is_err_and}
-use Rattle.bp_types.specs.Program.{Program}
 use Rattle.bp_cert.specs.Lines.{Given}
 use Rattle.bp_cert.specs.Reading.{Spells}
 use Rattle.bp_cert.specs.Texts.{problem_lines, IsProblem}

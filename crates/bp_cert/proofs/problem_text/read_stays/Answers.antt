@@ -1,11 +1,6 @@
-use Rattle.std.proofs.Common.{◌≡◌, ℕ, List, ◌∷◌, [], ◌++◌, length, map, subst, ap, sym, ◌∙◌, arith, length-append}
+use Rattle.std.proofs.Common.{◌∷◌, [], length, ap, arith, length-append}
 use Rattle.std.proofs.lemmas.Result.{err_from_is_err_and}
-use Rattle.std.proofs.lemmas.List.{map-append}
-use Rattle.std.proofs.lemmas.List.Elements.{All-append}
-use Rattle.bp_types.specs.declared.stay.Stay.{Stay}
-use Rattle.bp_cert.specs.Lines.{Line}
-use Rattle.bp_cert.specs.Reading.{GivesLines}
-use Rattle.bp_cert.specs.Texts.{problem_lines, stay_line, stay_numbers, IsProblem, IsStayWithin}
+use Rattle.bp_cert.specs.Texts.{problem_lines, IsProblem}
 use Rattle.bp_cert.proofs.StageLemmas.{refused_at, more_lines, one_more_line}
 use Rattle.bp_cert.proofs.WholeLemmas.{one_stay_more}
 use Rattle.bp_cert.proofs.ProblemLemmas.{stage_stay}

@@ -1,4 +1,4 @@
-use Rattle.std.proofs.Common.{◌≡◌, ℕ, ◌+◌, ◌-◌, ◌*◌, ◌<◌, ◌≤◌, ap, ◌∙◌, sym, arith, List, length, map, take, get_or, slice_index, Option, Some, None, below_more, subst}
+use Rattle.std.proofs.Common.{◌≡◌, ℕ, ◌+◌, ◌-◌, ◌*◌, ◌<◌, ◌≤◌, ap, ◌∙◌, sym, arith, List, length, map, take, get_or, Option, below_more, subst}
 use Rattle.std.specs.Option.{MatchOption}
 use Rattle.std.specs.Int.Digits.{number_from_digits}
 use Rattle.std.proofs.Math.ListN.{length-map}

@@ -1,5 +1,4 @@
 use Rattle.std.proofs.Common.{ℕ, ◌+◌, List, ap, subst, sym, arith}
-use Rattle.bp_cert.specs.Numbers.{spelled}
 use Rattle.bp_cert.proofs.FormLemmas.{IsSeen, not_empty, no_space_no_numbers, no_number_no_numbers, seen_great, seen_value}
 use Rattle.bp_cert.proofs.lines.form.numbers.Goals as goal
 use Rattle.bp_cert.proofs.lines.form.numbers.Goals.{in-Great, in-Value+in_ok-keep-in-Value}

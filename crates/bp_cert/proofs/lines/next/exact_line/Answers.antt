@@ -1,6 +1,5 @@
-use Rattle.std.proofs.Common.{◌≡◌, length, subst, sym, ◌∙◌, rules}
+use Rattle.std.proofs.Common.{◌≡◌, length, subst, ◌∙◌, rules}
 use Rattle.bp_cert.specs.declared.lines.form.Found.{Found}
-use Rattle.bp_cert.specs.declared.lines.form.Found.TheVariants.{Great, Whole}
 use Rattle.bp_cert.specs.Lines.{line_of}
 use Rattle.bp_cert.specs.Forms.{IsFound}
 use Rattle.bp_cert.proofs.NextLemmas.{great_is_refused, wrong_count}

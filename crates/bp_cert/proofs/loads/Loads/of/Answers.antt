@@ -1,6 +1,6 @@
-use Rattle.std.proofs.Common.{◌≡◌, ℕ, ◌+◌, ◌-◌, ◌<◌, refl, sym, ap, ◌∙◌, length, slice_index, length-set, arith}
+use Rattle.std.proofs.Common.{◌≡◌, ◌+◌, ◌-◌, ◌<◌, refl, sym, ap, ◌∙◌, slice_index, length-set, arith}
 use Rattle.bp_types.specs.Program.{load}
-use Rattle.bp_cert.specs.Loads.{arriving, departing}
+use Rattle.bp_cert.specs.Loads.{arriving}
 use Rattle.bp_cert.proofs.LoadLemmas.{arrivals_fit, load_moves, first_load, loads_more}
 use Rattle.bp_cert.proofs.loads.Loads.of.Goals as goal
 

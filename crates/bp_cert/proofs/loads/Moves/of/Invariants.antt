@@ -1,4 +1,4 @@
-use Rattle.std.proofs.Common.{◌≡◌, ℕ, ◌<◌, length, slice_index}
+use Rattle.std.proofs.Common.{◌≡◌, length}
 use Rattle.bp_cert.specs.Loads.{Counts, arriving_below, departing_below}
 use Rattle.bp_cert.proofs.loads.Moves.of.Given as goal
 

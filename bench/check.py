@@ -1,0 +1,128 @@
+#!/usr/bin/env python3
+"""Times `bidprice check` beside a C program that only reads the two files and adds up their bytes.
+
+    bench/check.py
+
+It wants gcc, glpsol (Debian's glpk-utils) for the certificates, and the program, which `./bidprice` builds at its
+first call. Files are made in out/bench. Each command is timed whole, the best of 40 runs, in turn with the other.
+It fails where `check` takes more than three times as long on 400 nights and 4,000 stays, or more memory than four
+times the texts and 8 MiB.
+"""
+import os
+import subprocess
+import sys
+import time
+
+HERE = os.path.dirname(os.path.abspath(__file__))
+TOP = os.path.dirname(HERE)
+FOLDER = os.path.join(TOP, "out", "bench")
+PROGRAM = os.environ.get("BIDPRICE", os.path.join(TOP, "crates", "bidprice", "out", "bidprice"))
+SIZES = [500, 1000, 2000, 4000]
+RUNS = 40
+
+
+def generate(seed, nights, rooms, stays):
+    """Rooms of each night, and stays (from, to, rate, forecast), from a linear congruential generator."""
+    x = seed + 1
+
+    def draw(m):
+        nonlocal x
+        x = 16807 * x % 2147483647
+        return x % m
+
+    rows = []
+    for _ in range(stays):
+        start = draw(nights)
+        length = 1 + draw(min(7, nights - start))
+        rate = length * (5000 + draw(10000))
+        rows.append((start, start + length, rate, draw(20)))
+    return [rooms] * nights, rows
+
+
+def problem_text(rooms, rows):
+    lines = ["problem 1", f"nights {len(rooms)}", words("rooms", rooms), f"stays {len(rows)}"]
+    lines += [words("stay", row) for row in rows]
+    return "\n".join(lines + ["end", ""])
+
+
+def certificate_text(value, sell, prices):
+    return "\n".join(["certificate 1", f"value {value}", words("sell", sell), words("prices", prices), "end", ""])
+
+
+def words(word, numbers):
+    return " ".join([word, *map(str, numbers)])
+
+
+def solved(rooms, rows, name):
+    """The optimum of glpsol: how many of each stay are sold, and the price of each night."""
+    model = os.path.join(FOLDER, name + ".lp")
+    answer = os.path.join(FOLDER, name + ".sol")
+    with open(model, "w") as out:
+        out.write("Maximize\n obj: " + " + ".join(f"{row[2]} y{j}" for j, row in enumerate(rows)) + "\nSubject To\n")
+        for night, room in enumerate(rooms):
+            here = [f"y{j}" for j, row in enumerate(rows) if row[0] <= night < row[1]]
+            if here:
+                out.write(f" n{night}: " + " + ".join(here) + f" <= {room}\n")
+        out.write("Bounds\n" + "".join(f" 0 <= y{j} <= {row[3]}\n" for j, row in enumerate(rows)) + "End\n")
+    subprocess.run(["glpsol", "--lp", model, "-w", answer], check=True, stdout=subprocess.DEVNULL)
+    # rows and columns are numbered from 1, in the order in which the model names them first
+    nights = [night for night in range(len(rooms)) if any(row[0] <= night < row[1] for row in rows)]
+    sell, prices = [0] * len(rows), [0] * len(rooms)
+    with open(answer) as lines:
+        for line in lines:
+            field = line.split()
+            if field[0] == "i":
+                prices[nights[int(field[1]) - 1]] = round(float(field[4]))
+            elif field[0] == "j":
+                sell[int(field[1]) - 1] = round(float(field[3]))
+    return sell, prices
+
+
+def build(name):
+    """Builds one of the C programs beside this script."""
+    program = os.path.join(FOLDER, name)
+    subprocess.run(["gcc", "-O2", "-o", program, os.path.join(HERE, name + ".c")], check=True)
+    return program
+
+
+def once(command):
+    """Milliseconds of one run."""
+    said = [(os.POSIX_SPAWN_OPEN, 1, os.path.join(FOLDER, "said"), os.O_WRONLY | os.O_CREAT | os.O_TRUNC, 0o644)]
+    begin = time.perf_counter()
+    child = os.posix_spawn(command[0], command, os.environ, file_actions=said)
+    _, status = os.waitpid(child, 0)
+    taken = (time.perf_counter() - begin) * 1000
+    if status != 0:
+        sys.exit(f"{command[0]} failed")
+    return taken
+
+
+def main():
+    os.makedirs(FOLDER, exist_ok=True)
+    adder, peak_of = build("bytes"), build("peak")
+    print(f"{'stays':>6}{'bytes':>9}{'check':>10}{'bytes.c':>10}{'ratio':>8}{'peak KiB':>10}  said")
+    for stays in SIZES:
+        rooms, rows = generate(7, 400, 30, stays)
+        problem, certificate = (os.path.join(FOLDER, f"{kind}-{stays}") for kind in ("problem", "certificate"))
+        with open(problem, "w") as out:
+            out.write(problem_text(rooms, rows))
+        sell, prices = solved(rooms, rows, str(stays))
+        with open(certificate, "w") as out:
+            out.write(certificate_text(sum(row[2] * sold for row, sold in zip(rows, sell)), sell, prices))
+        check, adding = [], []
+        for _ in range(RUNS):
+            adding.append(once([adder, problem, certificate]))
+            check.append(once([PROGRAM, "check", problem, certificate]))
+        peak = int(subprocess.run([peak_of, PROGRAM, "check", problem, certificate], capture_output=True, check=True).stderr)
+        size = os.path.getsize(problem) + os.path.getsize(certificate)
+        ratio = min(check) / min(adding)
+        said = open(os.path.join(FOLDER, "said")).read().strip()
+        print(f"{stays:>6}{size:>9}{min(check):>8.2f}ms{min(adding):>8.2f}ms{ratio:>8.2f}{peak:>10}  {said}")
+    if ratio > 3:
+        sys.exit("check takes more than three times as long")
+    if peak * 1024 > 4 * size + 8 * 1024 * 1024:
+        sys.exit("check takes too much memory")
+
+
+if __name__ == "__main__":
+    main()

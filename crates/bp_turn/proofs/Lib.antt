@@ -1,0 +1,13 @@
+pub mod Numbers
+pub mod Prefixes
+pub mod Entries
+pub mod Changed
+pub mod Uniqueness
+pub mod Opens
+pub mod Draws
+pub mod Calls
+pub mod Logs
+pub mod Leaves
+pub mod Looks
+pub mod Splits
+pub mod Joins

@@ -1,0 +1,42 @@
+-- What a solver keeps between calls, and what its calls change.
+use Rattle.std.specs.Prelude.{◌≡◌, ℕ, ◌+◌, ◌-◌, ◌≤◌, ◌<◌, length, slice_index, slice_set}
+use Rattle.bp_types.specs.Program.{Program, stay_at}
+use Rattle.bp_types.specs.Changes.{with_forecast}
+use Rattle.bp_flow.specs.Settled.{IsSettled}
+use Rattle.bp_residual.specs.Network.{Priced, IsPriced, IsSlack, IsBalanced}
+
+-- the flow carries exactly the rooms, and no residual step has a negative reduced cost
+pub record IsSolved (p : Priced) : Type 0 where
+  pub priced : IsPriced p
+  pub balanced : IsBalanced p.flow
+  pub slack : IsSlack p.flow (slice_index p.potentials)
+
+-- an optimal flow of the program with the least prices
+pub record IsSolverOf (program : Program) (p : Priced) : Type 0 where
+  pub solved : IsSolved p
+  pub settled : IsSettled p
+  pub solves : p.flow.program ≡ program
+
+-- the rooms of the nights below a night are the program's, and the others 0
+pub record ColdSoFar (program : Program) (night : ℕ) (p : Priced) : Type 0 where
+  pub solved : IsSolved p
+  pub stays : p.flow.program.stays ≡ program.stays
+  pub each : length p.flow.program.rooms ≡ length program.rooms
+  pub done : (n : ℕ) → n < night → slice_index p.flow.program.rooms n ≡ slice_index program.rooms n
+  pub left : (n : ℕ) → night ≤ n → slice_index p.flow.program.rooms n ≡ 0
+
+-- one stay has another forecast and another sold number, and nothing else changed
+pub record SetsDemand (old new : Priced) (stay forecast units : ℕ) : Type 0 where
+  pub stays : new.flow.program.stays ≡ slice_set old.flow.program.stays stay (with_forecast (stay_at old.flow.program stay) forecast)
+  pub rooms : new.flow.program.rooms ≡ old.flow.program.rooms
+  pub sell : new.flow.sell ≡ slice_set old.flow.sell stay units
+  pub spare : new.flow.spare ≡ old.flow.spare
+  pub potentials : new.potentials ≡ old.potentials
+
+-- how far two numbers lie apart
+abbrev pub difference : ℕ → ℕ → ℕ
+difference a b = (a - b) + (b - a)
+
+-- a counter has counted so many steps at most
+abbrev pub CountsUpTo : ℕ → ℕ → ℕ → Type 0
+CountsUpTo old new most = (old ≤ new) × (new ≤ old + most)

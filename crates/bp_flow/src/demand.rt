@@ -1,0 +1,67 @@
+ghost use Rattle.std.specs.Prelude.{◌≡◌, ℕ, ◌+◌, ◌-◌, ◌<◌, ◌≤◌, length, slice_index};
+ghost use Rattle.bp_types.specs.declared.change.Change.TheVariants.{Demand};
+ghost use Rattle.bp_types.specs.Limits.{most_forecast};
+ghost use Rattle.bp_types.specs.Program.{stay_at};
+ghost use Rattle.bp_types.specs.Changes.{changed};
+ghost use Rattle.bp_paths.specs.Labels.{nodes};
+ghost use Rattle.bp_residual.specs.Network.{Priced, HasImbalance, IsBalanced, IsSlack};
+ghost use Rattle.bp_flow.specs.Solvers.{IsSolved, SetsDemand, CountsUpTo, difference};
+
+use crate::moves::shift;
+use bp_paths::Scratch;
+use bp_residual::Flow;
+use bp_types::Steps;
+use std::sync::ledger::Ledger;
+
+/// Sets the forecast of a stay, and how much of it is sold.
+fn set_demand(flow: &mut Flow, stay: u32, value: u64, units: u64)
+    requires stay { stay < length flow.old.flow.program.stays }
+    requires value { value ≤ most_forecast }
+    requires units { units ≤ value }
+    ensures { SetsDemand flow.old flow.new stay value units }
+{
+    let _nights = flow.nights();
+    let forecast = flow.stay(stay).forecast;
+    if value < forecast {
+        flow.set_sold(stay, units);
+        flow.set_forecast(stay, value);
+    } else {
+        flow.set_forecast(stay, value);
+        flow.set_sold(stay, units);
+    }
+}
+
+/// Sets a stay's forecast; what is sold follows it where the stay is worth more than its nights.
+pub(crate) fn reforecast<L: Ledger>(
+    flow: &mut Flow,
+    scratch: &mut Scratch,
+    stay: u32,
+    value: u64,
+    steps: &mut Steps<L>,
+)
+    requires stay { stay < length flow.old.flow.program.stays }
+    requires value { value ≤ most_forecast }
+    requires size { length scratch.old.distances ≡ nodes flow.old }
+    requires solved { IsSolved flow.old }
+    ensures program { flow.new.flow.program ≡ changed flow.old.flow.program (Demand stay value) }
+    ensures balanced { IsBalanced flow.new.flow }
+    ensures slack { IsSlack flow.new.flow (slice_index flow.new.potentials) }
+    ensures size { length scratch.new.distances ≡ length scratch.old.distances }
+    ensures counted { CountsUpTo steps.old steps.new (difference (stay_at flow.old.flow.program stay).forecast value) }
+{
+    let terms = flow.stay(stay);
+    let sold = flow.sold(stay);
+    let arrival = terms.span.from;
+    let departure = terms.span.to;
+    let from = u128::from(flow.level(arrival));
+    let to = u128::from(flow.level(departure));
+    if value < sold {
+        set_demand(flow, stay, value, value);
+        shift(flow, scratch, arrival, departure, sold - value, steps);
+    } else if from < to + u128::from(terms.rate) {
+        set_demand(flow, stay, value, value);
+        shift(flow, scratch, departure, arrival, value - sold, steps);
+    } else {
+        set_demand(flow, stay, value, sold);
+    }
+}

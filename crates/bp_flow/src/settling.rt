@@ -1,0 +1,42 @@
+ghost use Rattle.std.specs.Prelude.{◌≡◌, ℕ, ◌+◌, ◌-◌, ◌<◌, ◌≤◌, length, slice_index};
+ghost use Rattle.bp_residual.specs.Network.{Priced, IsSlack, IsBalanced};
+ghost use Rattle.bp_paths.specs.Labels.{nodes, far};
+ghost use Rattle.bp_flow.specs.Settled.{IsSettled, AreFalls};
+
+use bp_paths::{Scratch, search_to};
+use bp_residual::Flow;
+use bp_types::Steps;
+use std::sync::ledger::Ledger;
+
+/// One place for each node.
+const MOST_NODES: usize = 401;
+
+fn fill_falls(scratch: &Scratch, top: u128, by: &mut [u128])
+    requires size { length by.old ≡ length scratch.now.distances }
+    requires few { length by.old ≤ 401 }
+    ensures { AreFalls scratch.now.distances top by.new (length by.new) }
+{
+    for node in 0..by.len() {
+        by[node] = top - scratch.distance(node as u32).unwrap_or(top).min(top);
+    }
+}
+
+/// Makes the prices the least optimal ones.
+pub(crate) fn settle_flow<L: Ledger>(flow: &mut Flow, scratch: &mut Scratch, steps: &mut Steps<L>)
+    requires size { length scratch.old.distances ≡ nodes flow.old }
+    requires slack { IsSlack flow.old.flow (slice_index flow.old.potentials) }
+    requires balanced { IsBalanced flow.old.flow }
+    ensures flow { flow.new.flow ≡ flow.old.flow }
+    ensures settled { IsSettled flow.new }
+    ensures slack { IsSlack flow.new.flow (slice_index flow.new.potentials) }
+    ensures size { length scratch.new.distances ≡ length scratch.old.distances }
+    ensures counted { steps.new ≡ steps.old + 1 }
+{
+    let nights = flow.nights();
+    let top = u128::from(flow.level(0));
+    search_to(flow, nights, scratch, steps);
+    let mut by = [0u128; MOST_NODES];
+    let raises = &mut by[..nights as usize + 1];
+    fill_falls(scratch, top, raises);
+    flow.lift(raises);
+}

@@ -1,0 +1,198 @@
+ghost use Rattle.std.specs.Prelude.{◌≡◌, ℕ, ◌+◌, ◌-◌, ◌*◌, ◌<◌, ◌≤◌, true, false, length, slice_index, All, IfOk};
+ghost use Rattle.bp_types.specs.declared.change.Change.TheVariants.{Rooms, Demand, Rate};
+ghost use Rattle.bp_types.specs.Optimum.{Certifies, AreLeastPrices};
+ghost use Rattle.bp_types.specs.Program.{stay_at};
+ghost use Rattle.bp_types.specs.Changes.{changed, Fits};
+ghost use Rattle.bp_paths.specs.Labels.{nodes};
+ghost use Rattle.bp_residual.specs.Network.{Priced, greatest_rate};
+ghost use Rattle.bp_flow.specs.Solvers.{ColdSoFar, IsSolved, IsSolverOf, CountsUpTo, difference};
+ghost use Rattle.bp_flow.specs.Settled.{IsSettled, IsSolvable};
+
+use crate::demand::reforecast;
+use crate::moves::shift;
+use crate::rooms::{add_rooms, take_rooms};
+use crate::settling::settle_flow;
+use bp_paths::Scratch;
+use bp_residual::Flow;
+use bp_types::{Certificate, Instance, Memory, Span, Steps};
+use std::alloc::Global;
+use std::marker::Model;
+use std::sync::ledger::Ledger;
+
+/// A flow that carries exactly the rooms, without negative reduced costs, and the memory of its searches.
+///
+/// Contracts see the flow with its potentials; the instance that is solved is the program of that flow.
+#[derive(Drop)]
+pub struct Solver {
+    flow: Flow,
+    scratch: Scratch,
+}
+
+impl Model for Solver {
+    ghost use Rattle.std.specs.Prelude.{◌≡◌, length};
+    ghost use Rattle.bp_residual.specs.Network.{Priced};
+    ghost use Rattle.bp_paths.specs.Labels.{nodes};
+    ghost use Rattle.bp_flow.specs.Solvers.{IsSolved};
+
+    ghost Value = { Priced };
+
+    ghost view = { λ a. a.flow };
+
+    ghost invariant = { λ a. IsSolved a.flow × (length a.scratch.distances ≡ nodes a.flow) };
+}
+
+impl Solver {
+    /// Solves an instance from nothing.
+    pub fn cold<L: Ledger>(
+        alloc: Global,
+        instance: &Instance,
+        steps: &mut Steps<L>,
+    ) -> Result<Solver, Memory>
+        ensures solver { IfOk result (IsSolverOf instance.now) }
+        ensures solvable { IfOk result (λ _. IsSolvable instance.now) }
+    {
+        let mut solver = Solver::empty(alloc, instance)?;
+        for night in 0..instance.nights() {
+            let span = Span {
+                from: night,
+                to: night + 1,
+            };
+            solver.raise(span, instance.rooms(night), steps);
+        }
+        solver.settle(steps);
+        Ok(solver)
+    }
+
+    /// A solver on the instance without rooms.
+    fn empty(alloc: Global, instance: &Instance) -> Result<Solver, Memory>
+        ensures { IfOk result (ColdSoFar instance.now 0) }
+    {
+        let nodes = instance.nights() + 1;
+        let flow = Flow::empty(alloc, instance.copy(alloc)?)?;
+        let scratch = Scratch::new(alloc, nodes, flow.arcs())?;
+        let _nights = flow.nights();
+        Ok(Solver { flow, scratch })
+    }
+
+    /// A copy, which goes its own way from here on.
+    pub fn copy(&self, alloc: Global) -> Result<Solver, Memory>
+        ensures { IfOk result (λ s. s ≡ self.now) }
+    {
+        let flow = self.flow.copy(alloc)?;
+        let nodes = flow.nights() + 1;
+        let scratch = Scratch::new(alloc, nodes, flow.arcs())?;
+        Ok(Solver { flow, scratch })
+    }
+
+    /// Adds so many units on each night of a span.
+    pub fn raise<L: Ledger>(&mut self, span: Span, units: u64, steps: &mut Steps<L>)
+        requires { Fits self.old.flow.program (Rooms span true units) }
+        ensures program { self.new.flow.program ≡ changed self.old.flow.program (Rooms span true units) }
+        ensures solved { IsSolved self.new }
+        ensures counted { CountsUpTo steps.old steps.new units }
+    {
+        let Span { from, to } = span;
+        let _nights = self.flow.nights();
+        add_rooms(&mut self.flow, span, units);
+        shift(&mut self.flow, &mut self.scratch, from, to, units, steps);
+        let _nights = self.flow.nights();
+    }
+
+    /// Takes so many units away on each night of a span.
+    pub fn lower<L: Ledger>(&mut self, span: Span, units: u64, steps: &mut Steps<L>)
+        requires { Fits self.old.flow.program (Rooms span false units) }
+        ensures program { self.new.flow.program ≡ changed self.old.flow.program (Rooms span false units) }
+        ensures solved { IsSolved self.new }
+        ensures counted { CountsUpTo steps.old steps.new units }
+    {
+        let Span { from, to } = span;
+        let _nights = self.flow.nights();
+        take_rooms(&mut self.flow, span, units);
+        shift(&mut self.flow, &mut self.scratch, to, from, units, steps);
+        let _nights = self.flow.nights();
+    }
+
+    /// Sets the forecast of a stay, in units.
+    pub fn demand<L: Ledger>(&mut self, stay: u32, value: u64, steps: &mut Steps<L>)
+        requires { Fits self.old.flow.program (Demand stay value) }
+        ensures program { self.new.flow.program ≡ changed self.old.flow.program (Demand stay value) }
+        ensures solved { IsSolved self.new }
+        ensures counted { CountsUpTo steps.old steps.new (difference (stay_at self.old.flow.program stay).forecast value) }
+    {
+        reforecast(&mut self.flow, &mut self.scratch, stay, value, steps);
+        let _nights = self.flow.nights();
+    }
+
+    /// Sets the rate of a stay, in minor units of money.
+    pub fn reprice<L: Ledger>(&mut self, stay: u32, value: u64, steps: &mut Steps<L>)
+        requires { Fits self.old.flow.program (Rate stay value) }
+        ensures program { self.new.flow.program ≡ changed self.old.flow.program (Rate stay value) }
+        ensures solved { IsSolved self.new }
+        ensures counted { CountsUpTo steps.old steps.new (2 * (stay_at self.old.flow.program stay).forecast) }
+    {
+        let _nights = self.flow.nights();
+        let forecast = self.flow.stay(stay).forecast;
+        self.demand(stay, 0, steps);
+        self.set_rate(stay, value);
+        self.demand(stay, forecast, steps);
+    }
+
+    /// Sets the rate of a stay that nobody asks for.
+    fn set_rate(&mut self, stay: u32, value: u64)
+        requires fits { Fits self.old.flow.program (Rate stay value) }
+        requires unasked { (stay_at self.old.flow.program stay).forecast ≡ 0 }
+        ensures program { self.new.flow.program ≡ changed self.old.flow.program (Rate stay value) }
+        ensures solved { IsSolved self.new }
+    {
+        self.flow.set_rate(stay, value);
+        let _nights = self.flow.nights();
+    }
+
+    /// Makes the prices the least optimal ones, by one search.
+    pub fn settle<L: Ledger>(&mut self, steps: &mut Steps<L>)
+        ensures flow { self.new.flow ≡ self.old.flow }
+        ensures settled { IsSettled self.new }
+        ensures solved { IsSolved self.new }
+        ensures solvable { IsSolvable self.new.flow.program }
+        ensures counted { CountsUpTo steps.old steps.new 1 }
+    {
+        settle_flow(&mut self.flow, &mut self.scratch, steps);
+        let _nights = self.flow.nights();
+    }
+
+    /// The allocation, the prices, and the revenue as the value of both: a certificate of the instance with
+    /// its least prices.
+    pub fn certificate(&self, alloc: Global) -> Result<Certificate, Memory>
+        requires settled { IsSettled self.now }
+        ensures certifies { IfOk result (λ c. Certifies self.now.flow.program c.value c.sell c.prices) }
+        ensures least { IfOk result (λ c. AreLeastPrices self.now.flow.program c.prices) }
+        ensures within_rates { IfOk result (λ c. All (λ x. x ≤ greatest_rate self.now.flow.program) c.prices) }
+        ensures sold { IfOk result (λ c. c.sell ≡ self.now.flow.sell) }
+    {
+        let certificate = self.flow.certificate(alloc)?;
+        Ok(certificate)
+    }
+
+    /// How many nights there are.
+    pub fn nights(&self) -> u32
+        ensures value { result ≡ length self.now.flow.program.rooms }
+        ensures solved { IsSolved self.now }
+    {
+        self.flow.nights()
+    }
+
+    /// How many stays there are.
+    pub fn stays(&self) -> u32
+        ensures { result ≡ length self.now.flow.program.stays }
+    {
+        self.flow.stays()
+    }
+
+    /// The rooms of a night, in units.
+    pub fn rooms(&self, night: u32) -> u64
+        requires { night < length self.now.flow.program.rooms }
+        ensures { result ≡ slice_index self.now.flow.program.rooms night }
+    {
+        self.flow.rooms(night)
+    }
+}

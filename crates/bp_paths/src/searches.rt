@@ -1,0 +1,170 @@
+ghost use Rattle.std.specs.Prelude.{◌≡◌, ℕ, ◌+◌, ◌-◌, ◌*◌, ◌^◌, ◌<◌, ◌≤◌, [], length, replicate, slice_index, All, drop, false, IfOk};
+ghost use Rattle.bp_residual.specs.Network.{Priced, IsSlack, IsPriced, Admits, step_of, steps_of, arcs};
+ghost use Rattle.bp_paths.specs.Labels.{nodes, far, AreLabelsSoFar, IsTracedPath};
+ghost use Rattle.bp_paths.specs.Paths.{Kept, AreDistancesTo, IsFound, distance_of, least_room};
+
+use crate::labels::Labels;
+use bp_residual::{Flow, Hop};
+use bp_types::{Memory, Steps};
+use std::alloc::Global;
+use std::marker::Model;
+use std::sync::ledger::Ledger;
+
+/// What a search answers.
+#[derive(Clone, Copy, Debug, PartialEq, Eq)]
+pub enum Found {
+    /// A shortest path is in the scratch, and each of its hops has room for so many units.
+    Reached { units: u64 },
+    /// There is no residual path.
+    Unreached,
+}
+
+/// The memory of searches: the distances that the last one found, and its path.
+///
+/// Contracts see a number for each node, where the greatest u128 stands for none, and a list of hops.
+#[derive(Drop)]
+pub struct Scratch {
+    labels: Labels,
+    slots: Vec<Hop>,
+    start: usize,
+}
+
+impl Model for Scratch {
+    ghost use Rattle.std.specs.Prelude.{◌≡◌, ◌≤◌, length, drop};
+    ghost use Rattle.bp_paths.specs.Paths.{Kept};
+
+    ghost Value = { Kept };
+
+    ghost view = { λ a. record { distances = a.labels.kept.items; path = drop a.start a.slots.items } };
+
+    ghost invariant = { λ a. (length a.labels.rank.items ≡ length a.labels.kept.items) × (length a.labels.via.items ≡ length a.labels.kept.items) × (length a.slots.items ≡ length a.labels.kept.items) × (a.start ≤ length a.slots.items) };
+}
+
+impl Scratch {
+    /// The memory for searches in a network of so many nodes and arcs.
+    pub fn new(alloc: Global, nodes: u32, _arcs: u32) -> Result<Scratch, Memory>
+        ensures distances { IfOk result (λ k. k.distances ≡ replicate nodes far) }
+        ensures path { IfOk result (λ k. k.path ≡ []) }
+    {
+        let size = nodes as usize;
+        let none = Hop {
+            arc: 0,
+            forward: false,
+        };
+        let kept = vec![in alloc; u128::MAX; size]?;
+        let rank = vec![in alloc; 0u32; size]?;
+        let via = vec![in alloc; none; size]?;
+        let queue = vec![in alloc; 0u32; size]?;
+        let slots = vec![in alloc; none; size]?;
+        Ok(Scratch {
+            labels: Labels {
+                from: 0,
+                count: 0,
+                kept,
+                rank,
+                via,
+                queue,
+                waiting: 0,
+            },
+            slots,
+            start: size,
+        })
+    }
+
+    /// The distance that the last search kept for a node, in minor units of money.
+    pub fn distance(&self, node: u32) -> Option<u128>
+        requires { node < length self.now.distances }
+        ensures { result ≡ distance_of self.now node }
+    {
+        let distance = self.labels.kept[node as usize];
+        if distance < u128::MAX {
+            Some(distance)
+        } else {
+            None
+        }
+    }
+
+    /// The path that the last search found.
+    pub fn path(&self) -> &[Hop]
+        ensures { result.now ≡ self.now.path }
+    {
+        &self.slots[self.start..]
+    }
+}
+
+/// The least room of the hops of a path.
+fn bottleneck(flow: &Flow, path: &[Hop]) -> u64
+    requires in_range { All (λ h. h.arc < arcs flow.now.flow.program) path.now }
+    requires admits { All (λ h. Admits flow.now.flow (step_of flow.now.flow.program h) 1) path.now }
+    ensures admits { All (λ h. Admits flow.now.flow (step_of flow.now.flow.program h) result) path.now }
+    ensures some { 1 ≤ result }
+    ensures least { result ≡ least_room flow.now.flow (steps_of flow.now.flow.program path.now) }
+{
+    let mut units = u64::MAX;
+    for hop in path {
+        units = units.min(flow.room(*hop));
+    }
+    units
+}
+
+/// Writes the path to a node that was reached at the end of the slots; answers where it begins, and its room.
+fn path_to(flow: &Flow, to: u32, labels: &Labels, slots: &mut [Hop]) -> (usize, u64)
+    requires priced { IsPriced flow.now }
+    requires labels { AreLabelsSoFar false flow.now labels.now.from labels.now.count labels.now.kept.items labels.now.rank.items labels.now.via.items }
+    requires to { to < nodes flow.now }
+    requires near { slice_index labels.now.kept.items to < far }
+    requires settled { 0 < slice_index labels.now.rank.items to }
+    requires slots { length slots.old ≡ nodes flow.now }
+    ensures start { result.0 ≤ length slots.new }
+    ensures path { IsTracedPath flow.now labels.now.kept.items labels.now.rank.items labels.now.from to (drop result.0 slots.new) }
+    ensures admits { All (λ h. Admits flow.now.flow (step_of flow.now.flow.program h) result.1) (drop result.0 slots.new) }
+    ensures some { 1 ≤ result.1 }
+    ensures least { result.1 ≡ least_room flow.now.flow (steps_of flow.now.flow.program (drop result.0 slots.new)) }
+{
+    let start = labels.trace(flow, to, slots);
+    (start, bottleneck(flow, &slots[start..]))
+}
+
+/// Finds a shortest residual path by reduced cost. Source: Dijkstra's method under potentials.
+pub fn search<L: Ledger>(
+    flow: &Flow,
+    from: u32,
+    to: u32,
+    scratch: &mut Scratch,
+    steps: &mut Steps<L>,
+) -> Found
+    requires slack { IsSlack flow.now.flow (slice_index flow.now.potentials) }
+    requires from { from < nodes flow.now }
+    requires to { to < nodes flow.now }
+    requires size { length scratch.old.distances ≡ nodes flow.now }
+    ensures found { IsFound flow.now from to scratch.new result }
+    ensures size { length scratch.new.distances ≡ nodes flow.now }
+    ensures counted { steps.new ≡ steps.old + 1 }
+{
+    steps.tick();
+    let _nights = flow.nights();
+    scratch.labels.begin(flow, false, from);
+    scratch.labels.settle_until(flow, false, Some(to));
+    scratch.start = scratch.slots.len();
+    if scratch.labels.kept[to as usize] == u128::MAX {
+        return Found::Unreached;
+    }
+    let (start, units) = path_to(flow, to, &scratch.labels, &mut scratch.slots);
+    scratch.start = start;
+    Found::Reached { units }
+}
+
+/// Finds the distances by reduced cost of all nodes to one node.
+pub fn search_to<L: Ledger>(flow: &Flow, to: u32, scratch: &mut Scratch, steps: &mut Steps<L>)
+    requires slack { IsSlack flow.now.flow (slice_index flow.now.potentials) }
+    requires to { to < nodes flow.now }
+    requires size { length scratch.old.distances ≡ nodes flow.now }
+    ensures distances { AreDistancesTo flow.now to scratch.new.distances }
+    ensures counted { steps.new ≡ steps.old + 1 }
+{
+    steps.tick();
+    let _nights = flow.nights();
+    scratch.labels.begin(flow, true, to);
+    scratch.labels.settle_until(flow, true, None);
+    scratch.start = scratch.slots.len();
+}

@@ -1,0 +1,13 @@
+pub mod Slackness
+pub mod Lifts
+pub mod Pushes
+pub mod Paths
+pub mod Augment
+pub mod Least
+pub mod LeastLaws
+pub mod LiftLoop
+pub mod PushLoop
+pub mod Empty
+pub mod Changed
+pub mod Indexed
+pub mod Ends

@@ -1,0 +1,441 @@
+ghost use Rattle.std.specs.Prelude.{◌≡◌, ℕ, ◌+◌, ◌-◌, ◌*◌, ◌^◌, ◌<◌, ◌≤◌, length, slice_index, slice_set, IfOk, IfSome, MatchOption, ◌↔◌, if◌then◌else◌, All, map, neg_ℤ, pos};
+ghost use Rattle.bp_residual.specs.Network.{Priced, IsPriced, IsLifted, step_of, steps_of, arcs, tail, head, Admits, IsCost, prices_of, IsEmptyFlowOf, greatest_rate, forward_step, capacity, carried_by, gain, with_program, with_rooms, with_sold, room_of, IsSlack, pushed, sell_more, sell_less, spare_more, spare_less, greatest_spare, FitsSpare, Takes, NamesArcsOnce, pushed_along};
+ghost use Rattle.bp_residual.specs.Index.{AreHopsAt};
+ghost use Rattle.bp_types.specs.Program.{worth, stay_at};
+ghost use Rattle.std.specs.List.{range_with_len};
+ghost use Rattle.bp_types.specs.Limits.{most_rooms, most_rate, most_forecast};
+ghost use Rattle.bp_types.specs.Changes.{changed, Fits};
+ghost use Rattle.bp_types.specs.declared.change.Change.TheVariants.{Rooms, Demand, Rate};
+
+use crate::lift::{level_potentials, lift_potentials};
+use crate::network::Network;
+use crate::rooms::{clear_rooms, set_rooms};
+use crate::{ArcView, Hop};
+use bp_types::{Certificate, Change, Instance, Memory, Span, Stay};
+use std::alloc::Global;
+use std::marker::Model;
+
+/// A flow on the interval network, with a potential for each node.
+#[derive(Drop)]
+pub struct Flow {
+    instance: Instance,
+    sell: Vec<u64>,
+    spare: Vec<u64>,
+    potentials: Vec<u64>,
+    network: Network,
+}
+
+impl Model for Flow {
+    ghost use Rattle.bp_residual.specs.Network.{Priced, IsPriced};
+    ghost use Rattle.bp_residual.specs.Index.{AreEnds};
+
+    ghost Value = { Priced };
+
+    ghost view = { λ a. record { flow = record { program = a.instance; sell = a.sell.items; spare = a.spare.items }; potentials = a.potentials.items } };
+
+    ghost invariant = { λ a. IsPriced (record { flow = record { program = a.instance; sell = a.sell.items; spare = a.spare.items }; potentials = a.potentials.items }) × AreEnds a.instance a.network };
+}
+
+/// The price of each night.
+fn prices(alloc: Global, potentials: &[u64]) -> Result<Vec<u64>, Memory>
+    requires some { 0 < length potentials.now }
+    requires falls { (n : ℕ) → n < length potentials.now - 1 → slice_index potentials.now (n + 1) ≤ slice_index potentials.now n }
+    ensures { IfOk result (λ v. v.items ≡ map (λ n. slice_index potentials.now n - slice_index potentials.now (n + 1)) (range_with_len 0 (length potentials.now - 1))) }
+{
+    let mut prices = Vec::new(alloc);
+    for night in 0..potentials.len() - 1 {
+        prices.push(potentials[night] - potentials[night + 1])?;
+    }
+    Ok(prices)
+}
+
+/// The greatest rate of a stay; 0 without stays.
+fn greatest_rate(instance: &Instance) -> u64
+    ensures greatest { result ≡ greatest_rate instance.now }
+    ensures dear { (j : ℕ) → j < length instance.now.stays → (stay_at instance.now j).rate ≤ result }
+    ensures limit { result ≤ 1000000000 }
+{
+    let mut greatest = 0;
+    for stay in 0..instance.stays() {
+        greatest = greatest.max(instance.stay(stay).rate);
+    }
+    greatest
+}
+
+impl Flow {
+    /// The flow that carries nothing, on the instance without rooms; each price is the greatest rate.
+    pub fn empty(alloc: Global, mut instance: Instance) -> Result<Flow, Memory>
+        ensures { IfOk result (IsEmptyFlowOf instance) }
+    {
+        clear_rooms(&mut instance);
+        let price = greatest_rate(&instance);
+        let nights = instance.nights() as usize;
+        let sell = vec![in alloc; 0u64; instance.stays() as usize]?;
+        let spare = vec![in alloc; 0u64; nights]?;
+        let mut potentials = vec![in alloc; 0u64; nights + 1]?;
+        let network = Network::of(alloc, &instance)?;
+        level_potentials(&mut potentials, price);
+        Ok(Flow {
+            instance,
+            sell,
+            spare,
+            potentials,
+            network,
+        })
+    }
+
+    /// A copy, the same in every value.
+    pub fn copy(&self, alloc: Global) -> Result<Flow, Memory>
+        ensures { IfOk result (λ f. f ≡ self.now) }
+    {
+        let instance = self.instance.copy(alloc)?;
+        let sell = Vec::from_slice(alloc, &self.sell)?;
+        let spare = Vec::from_slice(alloc, &self.spare)?;
+        let potentials = Vec::from_slice(alloc, &self.potentials)?;
+        let network = self.network.copy(alloc)?;
+        Ok(Flow {
+            instance,
+            sell,
+            spare,
+            potentials,
+            network,
+        })
+    }
+
+    /// How many nights there are.
+    pub fn nights(&self) -> u32
+        ensures value { result ≡ length self.now.flow.program.rooms }
+        ensures priced { IsPriced self.now }
+    {
+        self.instance.nights()
+    }
+
+    /// How many stays there are.
+    pub fn stays(&self) -> u32
+        ensures { result ≡ length self.now.flow.program.stays }
+    {
+        self.instance.stays()
+    }
+
+    /// How many arcs there are: the stays, and a free arc for each night.
+    pub fn arcs(&self) -> u32
+        ensures { result ≡ arcs self.now.flow.program }
+    {
+        self.instance.stays() + self.instance.nights()
+    }
+
+    /// The hops that leave a node, with room or without.
+    pub fn hops_at(&self, node: u32) -> &[Hop]
+        requires { node ≤ length self.now.flow.program.rooms }
+        ensures { AreHopsAt self.now.flow.program node result.now }
+    {
+        self.network.hops_at(node)
+    }
+
+    /// An arc, with what it carries.
+    pub fn arc(&self, arc: u32) -> ArcView
+        requires { arc < arcs self.now.flow.program }
+        ensures tail { result.tail ≡ tail self.now.flow.program (forward_step self.now.flow.program arc) }
+        ensures head { result.head ≡ head self.now.flow.program (forward_step self.now.flow.program arc) }
+        ensures cost { result.cost ≡ neg_ℤ (pos (gain self.now.flow.program (forward_step self.now.flow.program arc))) }
+        ensures room { result.room ≡ capacity self.now.flow.program arc }
+        ensures flow { result.flow ≡ carried_by self.now.flow (forward_step self.now.flow.program arc) }
+    {
+        let stays = self.instance.stays();
+        if arc < stays {
+            let terms = self.stay(arc);
+            ArcView {
+                tail: terms.span.from,
+                head: terms.span.to,
+                cost: -(terms.rate as i64),
+                room: Some(terms.forecast),
+                flow: self.sold(arc),
+            }
+        } else {
+            let night = arc - stays;
+            ArcView {
+                tail: night,
+                head: night + 1,
+                cost: 0,
+                room: None,
+                flow: self.spare[night as usize],
+            }
+        }
+    }
+
+    /// The potential of a node, in minor units of money: the sum of the prices from its night to the last one.
+    pub fn potential(&self, node: u32) -> i128
+        requires { node ≤ length self.now.flow.program.rooms }
+        ensures { result ≡ pos (slice_index self.now.potentials node) }
+    {
+        i128::from(self.level(node))
+    }
+
+    /// The potential of a node as a number that is never negative.
+    pub fn level(&self, node: u32) -> u64
+        requires { node ≤ length self.now.flow.program.rooms }
+        ensures { result ≡ slice_index self.now.potentials node }
+    {
+        self.potentials[node as usize]
+    }
+
+    /// A stay by its number.
+    pub fn stay(&self, stay: u32) -> Stay
+        requires { stay < length self.now.flow.program.stays }
+        ensures value { result ≡ stay_at self.now.flow.program stay }
+        ensures span { (result.span.from < result.span.to) × (result.span.to ≤ length self.now.flow.program.rooms) }
+    {
+        self.instance.stay(stay)
+    }
+
+    /// How many units of a stay are sold.
+    pub fn sold(&self, stay: u32) -> u64
+        requires { stay < length self.now.flow.program.stays }
+        ensures { result ≡ slice_index self.now.flow.sell stay }
+    {
+        self.sell[stay as usize]
+    }
+
+    /// The node that the hop leaves.
+    pub fn tail(&self, hop: Hop) -> u32
+        requires { hop.arc < arcs self.now.flow.program }
+        ensures { result ≡ tail self.now.flow.program (step_of self.now.flow.program hop) }
+    {
+        let stays = self.instance.stays();
+        if hop.arc < stays {
+            let span = self.instance.stay(hop.arc).span;
+            if hop.forward { span.from } else { span.to }
+        } else {
+            let night = hop.arc - stays;
+            if hop.forward { night } else { night + 1 }
+        }
+    }
+
+    /// The node that the hop reaches.
+    pub fn head(&self, hop: Hop) -> u32
+        requires { hop.arc < arcs self.now.flow.program }
+        ensures { result ≡ head self.now.flow.program (step_of self.now.flow.program hop) }
+    {
+        let stays = self.instance.stays();
+        if hop.arc < stays {
+            let span = self.instance.stay(hop.arc).span;
+            if hop.forward { span.to } else { span.from }
+        } else {
+            let night = hop.arc - stays;
+            if hop.forward { night + 1 } else { night }
+        }
+    }
+
+    fn stay_cost(&self, stay: u32, forward: bool) -> Option<u128>
+        requires in_range { stay < length self.now.flow.program.stays }
+        requires slack { IsSlack self.now.flow (slice_index self.now.potentials) }
+        ensures cost { IsCost self.now (if forward then sell_more stay else sell_less stay) result }
+        ensures fits { IfSome result (λ c. c < 2 ^ 65) }
+    {
+        let terms = self.stay(stay);
+        let sold = self.sold(stay);
+        let rate = u128::from(terms.rate);
+        let from = u128::from(self.level(terms.span.from));
+        let to = u128::from(self.level(terms.span.to));
+        if forward {
+            if sold < terms.forecast {
+                Some(from - (to + rate))
+            } else {
+                None
+            }
+        } else {
+            if sold > 0 {
+                Some(to + rate - from)
+            } else {
+                None
+            }
+        }
+    }
+
+    fn night_cost(&self, night: u32, forward: bool) -> Option<u128>
+        requires in_range { night < length self.now.flow.program.rooms }
+        requires slack { IsSlack self.now.flow (slice_index self.now.potentials) }
+        ensures cost { IsCost self.now (if forward then spare_more night else spare_less night) result }
+        ensures fits { IfSome result (λ c. c < 2 ^ 65) }
+    {
+        let from = self.potentials[night as usize];
+        let to = self.potentials[night as usize + 1];
+        if forward {
+            Some(u128::from(from - to))
+        } else {
+            if self.spare[night as usize] > 0 {
+                Some(0)
+            } else {
+                None
+            }
+        }
+    }
+
+    /// The reduced cost of a hop that has room for a unit; None where it has none.
+    pub fn reduced_cost(&self, hop: Hop) -> Option<u128>
+        requires in_range { hop.arc < arcs self.now.flow.program }
+        requires slack { IsSlack self.now.flow (slice_index self.now.potentials) }
+        ensures cost { IsCost self.now (step_of self.now.flow.program hop) result }
+        ensures fits { IfSome result (λ c. c < 2 ^ 65) }
+    {
+        let stays = self.instance.stays();
+        if hop.arc < stays {
+            self.stay_cost(hop.arc, hop.forward)
+        } else {
+            self.night_cost(hop.arc - stays, hop.forward)
+        }
+    }
+
+    fn push_stay(&mut self, stay: u32, forward: bool, units: u64)
+        requires admits { Admits self.old.flow (if forward then sell_more stay else sell_less stay) units }
+        ensures flow { self.new.flow ≡ pushed self.old.flow (if forward then sell_more stay else sell_less stay) units }
+        ensures potentials { self.new.potentials ≡ self.old.potentials }
+    {
+        let place = stay as usize;
+        if forward {
+            self.sell[place] += units;
+        } else {
+            self.sell[place] -= units;
+        }
+    }
+
+    fn push_night(&mut self, night: u32, forward: bool, units: u64)
+        requires admits { Admits self.old.flow (if forward then spare_more night else spare_less night) units }
+        requires fits { FitsSpare self.old.flow (if forward then spare_more night else spare_less night) units }
+        ensures flow { self.new.flow ≡ pushed self.old.flow (if forward then spare_more night else spare_less night) units }
+        ensures potentials { self.new.potentials ≡ self.old.potentials }
+    {
+        let place = night as usize;
+        if forward {
+            self.spare[place] += units;
+        } else {
+            self.spare[place] -= units;
+        }
+    }
+
+    /// Raises each potential by its number, less what the last node gets; each price stays within its limits.
+    pub fn lift(&mut self, by: &[u128])
+        requires one_each { length by.now ≡ length self.old.flow.program.rooms + 1 }
+        requires small { All (λ x. x ≤ 10 ^ 30) by.now }
+        ensures potentials { IsLifted (length self.old.flow.program.rooms) self.old.potentials by.now self.new.potentials }
+        ensures flow { self.new.flow ≡ self.old.flow }
+    {
+        lift_potentials(&mut self.potentials, by);
+    }
+
+    /// Sends units over one hop.
+    fn push_hop(&mut self, hop: Hop, units: u64)
+        requires { Takes self.old.flow units hop }
+        ensures flow { self.new.flow ≡ pushed self.old.flow (step_of self.old.flow.program hop) units }
+        ensures potentials { self.new.potentials ≡ self.old.potentials }
+    {
+        let stays = self.instance.stays();
+        if hop.arc < stays {
+            self.push_stay(hop.arc, hop.forward, units);
+        } else {
+            self.push_night(hop.arc - stays, hop.forward, units);
+        }
+    }
+
+    /// Sends units along a path.
+    pub fn push(&mut self, path: &[Hop], units: u64)
+        requires once { NamesArcsOnce path.now }
+        requires takes { All (Takes self.old.flow units) path.now }
+        ensures flow { self.new.flow ≡ pushed_along self.old.flow (steps_of self.old.flow.program path.now) units }
+        ensures potentials { self.new.potentials ≡ self.old.potentials }
+    {
+        for hop in path {
+            self.push_hop(*hop, units);
+        }
+    }
+
+    /// How many units the hop has room for; the greatest number over a free arc forward, which has no limit.
+    pub fn room(&self, hop: Hop) -> u64
+        requires { hop.arc < arcs self.now.flow.program }
+        ensures { result ≡ room_of self.now.flow (step_of self.now.flow.program hop) }
+    {
+        let stays = self.instance.stays();
+        if hop.arc < stays {
+            let sold = self.sold(hop.arc);
+            if hop.forward {
+                self.stay(hop.arc).forecast.saturating_sub(sold)
+            } else {
+                sold
+            }
+        } else if hop.forward {
+            u64::MAX
+        } else {
+            self.spare[(hop.arc - stays) as usize]
+        }
+    }
+
+    /// The rooms of a night, in units.
+    pub fn rooms(&self, night: u32) -> u64
+        requires { night < length self.now.flow.program.rooms }
+        ensures value { result ≡ slice_index self.now.flow.program.rooms night }
+        ensures limit { result ≤ most_rooms }
+    {
+        self.instance.rooms(night)
+    }
+
+    /// Sets the rooms of one night, in units.
+    pub fn set_rooms(&mut self, night: u32, rooms: u64)
+        requires night { night < length self.old.flow.program.rooms }
+        requires rooms { rooms ≤ most_rooms }
+        ensures { self.new ≡ with_program self.old (with_rooms self.old.flow.program night rooms) }
+    {
+        set_rooms(&mut self.instance, night, rooms);
+    }
+
+    /// Adds (`up`) or takes away so many units on each night of a span.
+    pub fn move_rooms(&mut self, span: Span, up: bool, units: u64)
+        requires { Fits self.old.flow.program (Rooms span up units) }
+        ensures { self.new ≡ with_program self.old (changed self.old.flow.program (Rooms span up units)) }
+    {
+        self.instance.apply(Change::Rooms { span, up, units });
+    }
+
+    /// Sets the rate of a stay that nobody asks for, in minor units of money.
+    pub fn set_rate(&mut self, stay: u32, rate: u64)
+        requires stay { stay < length self.old.flow.program.stays }
+        requires unasked { (stay_at self.old.flow.program stay).forecast ≡ 0 }
+        requires rate { (1 ≤ rate) × (rate ≤ most_rate) }
+        ensures { self.new ≡ with_program self.old (changed self.old.flow.program (Rate stay rate)) }
+    {
+        self.instance.apply(Change::Rate { stay, value: rate });
+    }
+
+    /// Sets the forecast of a stay, in units.
+    pub fn set_forecast(&mut self, stay: u32, value: u64)
+        requires stay { stay < length self.old.flow.program.stays }
+        requires value { value ≤ most_forecast }
+        requires sold { slice_index self.old.flow.sell stay ≤ value }
+        ensures { self.new ≡ with_program self.old (changed self.old.flow.program (Demand stay value)) }
+    {
+        self.instance.apply(Change::Demand { stay, value });
+    }
+
+    /// Sets how many units of a stay are sold.
+    pub fn set_sold(&mut self, stay: u32, units: u64)
+        requires stay { stay < length self.old.flow.program.stays }
+        requires forecast { units ≤ (stay_at self.old.flow.program stay).forecast }
+        ensures { self.new ≡ with_sold self.old stay units }
+    {
+        let place = stay as usize;
+        self.sell[place] = units;
+    }
+
+    /// The allocation, the prices, and the revenue as the value of both.
+    pub fn certificate(&self, alloc: Global) -> Result<Certificate, Memory>
+        ensures { IfOk result (λ c. (c.value ≡ worth self.now.flow.program self.now.flow.sell) × (c.sell ≡ self.now.flow.sell) × (c.prices ≡ prices_of self.now)) }
+    {
+        let sell = Vec::from_slice(alloc, &self.sell)?;
+        let prices = prices(alloc, &self.potentials)?;
+        let value = self.instance.worth(&self.sell);
+        Ok(Certificate {
+            value,
+            sell,
+            prices,
+        })
+    }
+}

@@ -1,0 +1,21 @@
+//! The interval network of an instance, a flow on it with potentials, and its residual hops.
+//!
+//! Nodes are the mornings 0 to N. An arc leads from the arrival of each stay to its departure, at a cost
+//! of minus its rate, with the forecast as its room. A free arc leads over each night, and carries the
+//! rooms that nobody sleeps in. Stays are arcs 0 to M - 1, and the free arc of night n is arc M + n.
+//! Potentials fall by the price of each night, and end at 0.
+#![tactic(auto)]
+
+mod arc;
+mod flow;
+mod hop;
+pub mod law;
+mod lift;
+mod network;
+mod rooms;
+#[cfg(test)]
+mod tests;
+
+pub use arc::ArcView;
+pub use flow::Flow;
+pub use hop::Hop;

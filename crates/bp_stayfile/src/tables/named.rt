@@ -53,23 +53,23 @@ fn places_of(
 }
 
 /// Whether a record has as many fields as the header, each of them UTF-8.
-fn is_taken(width: usize, record: &ByteRecord) -> bool
-    ensures { result ≡ is_taken width (fields_of record.now) }
+fn is_taken(width: usize, raw: &ByteRecord) -> bool
+    ensures { result ≡ is_taken width (fields_of raw.now) }
 {
-    record.len() == width && is_text(record)
+    raw.len() == width && is_text(raw)
 }
 
 /// The fields of a record at some places.
-fn row_at(alloc: Global, places: &[usize], record: &ByteRecord) -> Result<StringRecord, TableError>
-    requires text { IsTrue (is_text (fields_of record.now)) }
-    requires places { All (λ p. p < length (fields_of record.now)) places.now }
+fn row_at(alloc: Global, places: &[usize], raw: &ByteRecord) -> Result<StringRecord, TableError>
+    requires text { IsTrue (is_text (fields_of raw.now)) }
+    requires places { All (λ p. p < length (fields_of raw.now)) places.now }
     ensures { MatchResult result
-        (λ row. fields_of row ≡ row_at places.now (fields_of record.now))
+        (λ row. fields_of row ≡ row_at places.now (fields_of raw.now))
         (λ e. e ≡ TableError.Memory) }
 {
     let mut row = StringRecord::new(alloc);
     for place in places {
-        row.push_field(field_at(record, *place))
+        row.push_field(field_at(raw, *place))
             .map_err(|_| TableError::Memory)?;
     }
     Ok(row)

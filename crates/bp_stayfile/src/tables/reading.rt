@@ -21,6 +21,7 @@ pub(super) fn records_of(alloc: Global, bytes: &[u8]) -> Result<Vec<ByteRecord>,
         .from_reader(alloc, bytes);
     let mut records = Vec::new(alloc);
     for record in reader.into_byte_records() {
+        // Over bytes in memory, and with records of any length allowed, the reader fails for want of memory alone.
         let Ok(record) = record else {
             return Err(TableError::Memory);
         };
@@ -32,14 +33,14 @@ pub(super) fn records_of(alloc: Global, bytes: &[u8]) -> Result<Vec<ByteRecord>,
 }
 
 /// A field as text, where it is UTF-8.
-fn text_at(record: &ByteRecord, place: usize) -> Option<&str>
-    requires { place < length (fields_of record.now) }
+fn text_at(raw: &ByteRecord, place: usize) -> Option<&str>
+    requires { place < length (fields_of raw.now) }
     ensures { MatchOption result
-        (is_utf8 (slice_index_or (fields_of record.now) place []) ≡ false)
-        (λ text. (is_utf8 (slice_index_or (fields_of record.now) place []) ≡ true)
-        × (text.now ≡ slice_index_or (fields_of record.now) place [])) }
+        (is_utf8 (slice_index_or (fields_of raw.now) place []) ≡ false)
+        (λ text. (is_utf8 (slice_index_or (fields_of raw.now) place []) ≡ true)
+        × (text.now ≡ slice_index_or (fields_of raw.now) place [])) }
 {
-    let Some(field) = record.get(place) else {
+    let Some(field) = raw.get(place) else {
         unreachable!()
     };
     match str::from_utf8(field) {
@@ -49,11 +50,11 @@ fn text_at(record: &ByteRecord, place: usize) -> Option<&str>
 }
 
 /// Whether each field is UTF-8.
-pub(super) fn is_text(record: &ByteRecord) -> bool
-    ensures { result ≡ is_text (fields_of record.now) }
+pub(super) fn is_text(raw: &ByteRecord) -> bool
+    ensures { result ≡ is_text (fields_of raw.now) }
 {
-    for place in 0..record.len() {
-        if text_at(record, place).is_none() {
+    for place in 0..raw.len() {
+        if text_at(raw, place).is_none() {
             return false;
         }
     }
@@ -61,12 +62,12 @@ pub(super) fn is_text(record: &ByteRecord) -> bool
 }
 
 /// A field without the spaces at its ends.
-pub(super) fn field_at(record: &ByteRecord, place: usize) -> &str
-    requires text { IsTrue (is_text (fields_of record.now)) }
-    requires place { place < length (fields_of record.now) }
-    ensures { result.now ≡ field_at (fields_of record.now) place }
+pub(super) fn field_at(raw: &ByteRecord, place: usize) -> &str
+    requires text { IsTrue (is_text (fields_of raw.now)) }
+    requires place { place < length (fields_of raw.now) }
+    ensures { result.now ≡ field_at (fields_of raw.now) place }
 {
-    let Some(text) = text_at(record, place) else {
+    let Some(text) = text_at(raw, place) else {
         unreachable!()
     };
     stripped(text)

@@ -4,4 +4,4 @@ use Rattle.bp_stayfile.specs.Tables.{row_at}
 use Rattle.bp_stayfile.proofs.tables.named.row_at.Given as goal
 
 abbrev pub invariant-loop-place : goal.invariant-loop-place
-invariant-loop-place l = fields_of l.row ≡ row_at (take l.place-index l.places) (fields_of l.record)
+invariant-loop-place l = fields_of l.row ≡ row_at (take l.place-index l.places) (fields_of l.raw)

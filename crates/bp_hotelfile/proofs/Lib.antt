@@ -1,0 +1,5 @@
+pub mod DateLemmas
+pub mod DayLemmas
+pub mod StepLemmas
+pub mod NightLemmas
+pub mod SeasonLemmas

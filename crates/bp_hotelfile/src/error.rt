@@ -1,0 +1,45 @@
+use crate::Key;
+use std::alloc::AllocError;
+use thiserror::Error;
+
+/// Why a hotel file is refused: the first thing that is wrong with it.
+///
+/// Keys are looked at in the order of [`Key`]: what is missing, of the wrong kind, no date, or outside its
+/// range. Only then come the tables of `night`, by their index from 0.
+#[derive(Clone, Copy, Debug, PartialEq, Eq, Error)]
+pub enum HotelError {
+    /// The bytes are no UTF-8, or no TOML.
+    #[error("the file is no TOML")]
+    NotToml,
+    #[error("the key {} is missing", key.text())]
+    Missing { key: Key },
+    /// A text stands where a number is wanted, or the like.
+    #[error("the key {} has a value of another kind", key.text())]
+    Kind { key: Key },
+    #[error("the key {} is no date", key.text())]
+    Date { key: Key },
+    #[error("the key {} is out of range", key.text())]
+    Range { key: Key },
+    /// It is no table with a date and a number of rooms.
+    #[error("the night table {index} has no date or no number of rooms")]
+    NightShape { index: u32 },
+    #[error("the night table {index} is of no night of the hotel")]
+    NightOutside { index: u32 },
+    /// An earlier table is of the same night.
+    #[error("the night table {index} is of a night that has a table")]
+    TwiceNight { index: u32 },
+    /// No memory was left. Nothing is said of the file.
+    #[error("no memory is left")]
+    Memory,
+}
+
+/// Why a text names no night of the hotel.
+#[derive(Clone, Copy, Debug, PartialEq, Eq, Error)]
+pub enum DateError {
+    /// It is not ten characters, as 2025-07-01, of a day that the calendar has.
+    #[error("this is no date")]
+    NotADate,
+    /// It is a date, and none of the nights.
+    #[error("the date is none of the nights")]
+    Outside,
+}

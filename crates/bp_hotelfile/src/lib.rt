@@ -1,0 +1,18 @@
+//! The hotel file: a name, the first night, the rooms of each night and the limits of the desk.
+//!
+//! The file is TOML. Nights are numbered from 0, and days are counted on the civil calendar.
+#![tactic(auto)]
+
+mod date;
+mod error;
+mod hotel;
+mod key;
+mod nights;
+mod settings;
+#[cfg(test)]
+mod tests;
+mod tree;
+
+pub use error::{DateError, HotelError};
+pub use hotel::{Hotel, read_hotel};
+pub use key::Key;

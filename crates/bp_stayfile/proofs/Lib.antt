@@ -1,0 +1,9 @@
+pub mod CsvLemmas
+pub mod FieldLemmas
+pub mod TextLemmas
+pub mod RowLemmas
+pub mod CodeLemmas
+pub mod ReadLemmas
+pub mod StayLemmas
+pub mod CountLemmas
+pub mod BookingLemmas

@@ -1,0 +1,67 @@
+ghost use Rattle.std.specs.Prelude.{◌≡◌, ◌^◌, ◌<◌, ◌≤◌};
+ghost use Rattle.bp_stayfile.specs.Cells.{code_in, number_in, date_in, span_in, limits_in};
+
+use crate::TableError;
+use crate::tables::{is_code, number_of};
+use bp_hotelfile::DateError;
+use bp_types::Span;
+
+const MOST_RATE: u64 = 1_000_000_000;
+
+const MOST_STAYS: u64 = 4_000;
+
+pub(crate) fn code_in(line: u64, text: &str) -> Result<(), TableError>
+    ensures { result ≡ code_in line text.now }
+{
+    if is_code(text) {
+        Ok(())
+    } else {
+        Err(TableError::Code { line })
+    }
+}
+
+pub(crate) fn number_in(line: u64, text: &str) -> Result<u64, TableError>
+    ensures { result ≡ number_in line text.now }
+{
+    number_of(text).ok_or(TableError::Number { line })
+}
+
+pub(crate) fn date_in(line: u64, night: Result<u32, DateError>) -> Result<(), TableError>
+    ensures { result ≡ date_in line night }
+{
+    match night {
+        Err(DateError::NotADate) => Err(TableError::Date { line }),
+        _ => Ok(()),
+    }
+}
+
+/// The nights from an arrival, all of them within the hotel's.
+pub(crate) fn span_in(
+    line: u64,
+    total: u32,
+    arrival: Result<u32, DateError>,
+    nights: u64,
+) -> Result<Span, TableError>
+    ensures { result ≡ span_in line total arrival nights }
+{
+    let Ok(from) = arrival else {
+        return Err(TableError::Outside { line });
+    };
+    if u128::from(from) + u128::from(nights) <= u128::from(total) {
+        let to = from + nights as u32;
+        Ok(Span { from, to })
+    } else {
+        Err(TableError::Outside { line })
+    }
+}
+
+/// One night at least, a rate in range, and room for a stay more.
+pub(crate) fn limits_in(line: u64, before: u64, nights: u64, rate: u64) -> Result<(), TableError>
+    ensures { result ≡ limits_in line before nights rate }
+{
+    if 1 <= nights && 1 <= rate && rate <= MOST_RATE && before < MOST_STAYS {
+        Ok(())
+    } else {
+        Err(TableError::Limit { line })
+    }
+}

@@ -1,0 +1,104 @@
+ghost use Rattle.std.specs.Prelude.{◌≡◌, ◌≢◌, ◌<◌, ◌+◌, ◌^◌, ◌≤◌, ℕ, List, [], length, slice_index_or, MatchResult, IfOk, IfErr, Ok, Err, Some, None, is_some, slice_set, true, replicate};
+ghost use Rattle.bp_stayfile.specs.declared.counts.Counted.{Counted};
+ghost use Rattle.bp_stayfile.specs.Reading.{table_read};
+ghost use Rattle.bp_stayfile.specs.Counts.{count_of, count_in, counted_in, count_rule, counts_file, AreLaidOut};
+
+use crate::cells::{code_in, number_in};
+use crate::tables::{Rows, rows};
+use crate::{Codes, Column, TableError};
+use std::alloc::Global;
+
+const COLUMNS: [Column; 2] = [Column::Code, Column::Count];
+
+const MOST_COUNT: u64 = 1_000_000;
+
+/// What a row of a forecast or a bookings file says of a stay.
+#[derive(Clone, Copy)]
+pub(crate) struct Counted {
+    pub stay: u32,
+    pub count: u64,
+}
+
+fn count_in(line: u64, counted: Counted) -> Result<Counted, TableError>
+    ensures { result ≡ count_in line counted }
+{
+    if counted.count <= MOST_COUNT {
+        Ok(counted)
+    } else {
+        Err(TableError::Limit { line })
+    }
+}
+
+/// The count of a row, whatever the rows before it say.
+fn counted_in(codes: &Codes, rows: &Rows, row: u64) -> Result<Counted, TableError>
+    requires row { row < length rows.now.rows }
+    requires columns { rows.now.columns ≡ 2 }
+    requires fits { row + 2 < 2 ^ 64 }
+    ensures { result ≡ counted_in codes.now (row + 2) (slice_index_or rows.now.rows row []) }
+{
+    let line = row + 2;
+    let code = rows.field(row, 0);
+    code_in(line, code)?;
+    let stay = codes.find(code).ok_or(TableError::NoCode { line })?;
+    let count = number_in(line, rows.field(row, 1))?;
+    count_in(line, Counted { stay, count })
+}
+
+/// Puts a count at its stay, unless the stay has one.
+fn put(counts: &mut [Option<u64>], line: u64, counted: Counted) -> Result<(), TableError>
+    requires { counted.stay < length counts.old }
+    ensures { MatchResult result
+        (λ _. (slice_index_or counts.old counted.stay None ≡ None)
+        × (counts.new ≡ slice_set counts.old counted.stay (Some counted.count)))
+        (λ e. (e ≡ TableError.TwiceCode line) × (is_some (slice_index_or counts.old counted.stay None) ≡ true)) }
+{
+    let stay = counted.stay as usize;
+    if counts[stay].is_some() {
+        return Err(TableError::TwiceCode { line });
+    }
+    counts[stay] = Some(counted.count);
+    Ok(())
+}
+
+fn no_counts(alloc: Global, stays: usize) -> Result<Vec<Option<u64>>, TableError>
+    ensures { MatchResult result (λ v. v.items ≡ replicate stays None) (λ e. e ≡ TableError.Memory) }
+{
+    match vec![in alloc; None; stays] {
+        Ok(counts) => Ok(counts),
+        Err(_) => Err(TableError::Memory),
+    }
+}
+
+fn counts_under(alloc: Global, codes: &Codes, rows: &Rows) -> Result<Vec<Option<u64>>, TableError>
+    requires { rows.now.columns ≡ 2 }
+    ensures read { IfOk result (λ v. (counts : List Counted) × (table_read (count_rule codes.now) rows.now ≡ Ok counts)
+        × AreLaidOut (length codes.now) counts v.items) }
+    ensures refused { IfErr result
+        (λ e. e ≢ TableError.Memory → table_read (count_rule codes.now) rows.now ≡ Err e) }
+{
+    let stays = codes.count() as usize;
+    let mut counts = no_counts(alloc, stays)?;
+    for row in 0..rows.count() {
+        let counted = counted_in(codes, rows, row)?;
+        put(&mut counts, row + 2, counted)?;
+    }
+    match rows.stop() {
+        Some(line) => Err(TableError::NotCsv { line }),
+        None => Ok(counts),
+    }
+}
+
+/// The counts of a forecast or a bookings file, one place per stay.
+pub(crate) fn counts_of(
+    alloc: Global,
+    codes: &Codes,
+    bytes: &[u8],
+) -> Result<Vec<Option<u64>>, TableError>
+    ensures read { IfOk result (λ v. (counts : List Counted) × (counts_file codes.now bytes.now ≡ Ok counts)
+        × AreLaidOut (length codes.now) counts v.items) }
+    ensures refused { IfErr result
+        (λ e. e ≢ TableError.Memory → counts_file codes.now bytes.now ≡ Err e) }
+{
+    let rows = rows(alloc, bytes, &COLUMNS)?;
+    counts_under(alloc, codes, &rows)
+}

@@ -1,0 +1,24 @@
+//! The tables of a hotel: its stays, their forecasts, and the bookings on file.
+//!
+//! Tables are CSV with a header. Nights are numbered from 0, money is in minor units, forecasts are in
+//! units of the house, and rooms sold are whole rooms.
+#![tactic(auto)]
+
+mod bookings;
+mod cells;
+mod codes;
+mod column;
+mod counts;
+mod error;
+mod forecast;
+mod stays;
+pub mod tables;
+#[cfg(test)]
+mod tests;
+
+pub use bookings::read_bookings;
+pub use codes::Codes;
+pub use column::Column;
+pub use error::TableError;
+pub use forecast::read_forecast;
+pub use stays::read_stays;

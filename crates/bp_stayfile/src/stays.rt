@@ -1,0 +1,85 @@
+ghost use Rattle.std.specs.Prelude.{◌≡◌, ◌≢◌, ◌<◌, ◌+◌, ◌^◌, length, slice_index_or, [], IfOk, IfErr, Ok, Err};
+ghost use Rattle.bp_stayfile.specs.Reading.{table_read};
+ghost use Rattle.bp_stayfile.specs.Stays.{stay_in, stay_rule, stays_file, codes_of, stays_of, AreStays};
+ghost use Rattle.bp_stayfile.specs.Stays.{Coded};
+ghost use Rattle.std.specs.Prelude.{List};
+
+use crate::cells::{code_in, date_in, limits_in, number_in, span_in};
+use crate::tables::{Rows, rows};
+use crate::{Codes, Column, TableError};
+use bp_hotelfile::Hotel;
+use bp_types::Stay;
+use std::alloc::Global;
+
+const COLUMNS: [Column; 4] = [Column::Code, Column::Arrival, Column::Nights, Column::Rate];
+
+/// The stay of a row, after as many codes as there are rows before it.
+fn stay_in(hotel: &Hotel, codes: &Codes, rows: &Rows, row: u64) -> Result<Stay, TableError>
+    requires row { row < length rows.now.rows }
+    requires columns { rows.now.columns ≡ 4 }
+    requires before { length codes.now ≡ row }
+    requires fits { row + 2 < 2 ^ 64 }
+    ensures { result ≡ stay_in hotel.now codes.now (slice_index_or rows.now.rows row []) }
+{
+    let line = row + 2;
+    let code = rows.field(row, 0);
+    code_in(line, code)?;
+    let arrival = hotel.night_of(rows.field(row, 1));
+    date_in(line, arrival)?;
+    let nights = number_in(line, rows.field(row, 2))?;
+    let rate = number_in(line, rows.field(row, 3))?;
+    limits_in(line, row, nights, rate)?;
+    let span = span_in(line, hotel.nights(), arrival, nights)?;
+    if codes.find(code).is_some() {
+        return Err(TableError::TwiceCode { line });
+    }
+    let forecast = 0;
+    Ok(Stay {
+        span,
+        rate,
+        forecast,
+    })
+}
+
+fn stays_under(alloc: Global, hotel: &Hotel, rows: &Rows) -> Result<(Codes, Vec<Stay>), TableError>
+    requires { rows.now.columns ≡ 4 }
+    ensures read { IfOk result (λ p. (stays : List Coded) × (table_read (stay_rule hotel.now) rows.now ≡ Ok stays)
+        × (p.0 ≡ codes_of stays) × (p.1.items ≡ stays_of stays)) }
+    ensures one_each { IfOk result (λ p. length p.0 ≡ length p.1.items) }
+    ensures limits { IfOk result (λ p. AreStays (length hotel.now.rooms) p.1.items) }
+    ensures refused { IfErr result
+        (λ e. e ≢ TableError.Memory → table_read (stay_rule hotel.now) rows.now ≡ Err e) }
+{
+    let mut codes = Codes::new(alloc);
+    let mut stays = Vec::new(alloc);
+    for row in 0..rows.count() {
+        let stay = stay_in(hotel, &codes, rows, row)?;
+        codes.add(alloc, rows.field(row, 0))?;
+        if stays.push(stay).is_err() {
+            return Err(TableError::Memory);
+        }
+    }
+    match rows.stop() {
+        Some(line) => Err(TableError::NotCsv { line }),
+        None => Ok((codes, stays)),
+    }
+}
+
+/// The stays of a stays file with their codes, in the order of the file, or the first thing that is wrong.
+///
+/// Nothing is forecast for them yet.
+pub fn read_stays(
+    alloc: Global,
+    hotel: &Hotel,
+    bytes: &[u8],
+) -> Result<(Codes, Vec<Stay>), TableError>
+    ensures read { IfOk result (λ p. (stays : List Coded) × (stays_file hotel.now bytes.now ≡ Ok stays)
+        × (p.0 ≡ codes_of stays) × (p.1.items ≡ stays_of stays)) }
+    ensures one_each { IfOk result (λ p. length p.0 ≡ length p.1.items) }
+    ensures limits { IfOk result (λ p. AreStays (length hotel.now.rooms) p.1.items) }
+    ensures refused { IfErr result
+        (λ e. e ≢ TableError.Memory → stays_file hotel.now bytes.now ≡ Err e) }
+{
+    let rows = rows(alloc, bytes, &COLUMNS)?;
+    stays_under(alloc, hotel, &rows)
+}

@@ -1,0 +1,81 @@
+ghost use Rattle.std.specs.Prelude.{◌≡◌, if◌then◌else◌, ◌≤◌, Some, None, length, reverse};
+ghost use Rattle.std.specs.List.{list_all};
+ghost use Rattle.std.specs.Str.{all_ascii_digits};
+ghost use Rattle.bp_hotelfile.specs.Numbers.{number};
+ghost use Rattle.bp_stayfile.specs.Fields.{without_front, stripped, number_of, is_code_byte, is_code};
+
+/// The text without the spaces at its front.
+fn without_front(text: &str) -> &str
+    ensures { result.now ≡ without_front text.now }
+{
+    let bytes = text.as_bytes();
+    for place in 0..bytes.len() {
+        if bytes[place] != b' ' {
+            return &text[place..];
+        }
+    }
+    ""
+}
+
+/// The text without the spaces at its end.
+fn without_back(text: &str) -> &str
+    ensures { result.now ≡ reverse (without_front (reverse text.now)) }
+{
+    let bytes = text.as_bytes();
+    for spaces in 0..bytes.len() {
+        if bytes[bytes.len() - 1 - spaces] != b' ' {
+            return &text[..bytes.len() - spaces];
+        }
+    }
+    ""
+}
+
+/// The text without the spaces at its ends.
+pub(crate) fn stripped(text: &str) -> &str
+    ensures { result.now ≡ stripped text.now }
+{
+    without_back(without_front(text))
+}
+
+fn digits(bytes: &[u8]) -> Option<u64>
+    requires { length bytes.now ≤ 18 }
+    ensures { result ≡ (if all_ascii_digits bytes.now then Some (number bytes.now) else None) }
+{
+    let mut number: u64 = 0;
+    for byte in bytes {
+        if !byte.is_ascii_digit() {
+            return None;
+        }
+        number = 10 * number + u64::from(*byte - b'0');
+    }
+    Some(number)
+}
+
+/// The number that 1 to 18 decimal digits write. Leading zeros are allowed.
+pub fn number_of(text: &str) -> Option<u64>
+    ensures { result ≡ number_of text.now }
+{
+    if text.is_empty() || text.len() > 18 {
+        return None;
+    }
+    digits(text.as_bytes())
+}
+
+fn is_code_byte(byte: u8) -> bool
+    ensures { result ≡ is_code_byte byte }
+{
+    matches!(byte, b'A'..=b'Z' | b'a'..=b'z' | b'0'..=b'9' | b'.' | b'_' | b'-')
+}
+
+fn are_code_bytes(bytes: &[u8]) -> bool
+    ensures { result ≡ list_all is_code_byte bytes.now }
+{
+    bytes.iter().all(|byte| is_code_byte(*byte))
+}
+
+/// Whether a text may be a stay's code: 1 to 16 letters of ASCII, digits, dots, underscores and dashes.
+pub fn is_code(text: &str) -> bool
+    ensures { result ≡ is_code text.now }
+{
+    1 <= text.len() && text.len() <= 16 && are_code_bytes(text.as_bytes())
+}

@@ -1,0 +1,18 @@
+use Rattle.std.proofs.Common.{◌∙◌, ◌+◌, ◌≤◌, ap, arith, length, List}
+use Rattle.bp_types.specs.declared.change.Change.{Change}
+use Rattle.bp_core.specs.Acting.{Diary}
+use Rattle.bp_core.specs.Changes.{deltas_between}
+use Rattle.bp_core.specs.Log.{kept_between}
+use Rattle.bp_core.proofs.KeptBetween.{kept_is_between}
+use Rattle.bp_core.proofs.book.Book.changes_until.Goals as goal
+
+pub returns-clause-items : goal.returns-clause-items
+returns-clause-items c =
+    let within : c.fill.result ≤ length c.self.inside.log.lines = omega (arith, c.fill.ensures.reached.1, c.requires.within, ap (λ (b : Diary). length b.history) c.self.view_is) in
+    c.fill.ensures.items ∙ ap (λ l. kept_between l c.args.from c.fill.result) c.self.invariant.fed ∙ kept_is_between c.self.inside.house c.self.inside.log.lines c.args.from c.fill.result within ∙ ap (λ (b : Diary). deltas_between b.house b.history c.args.from c.fill.result) c.self.view_is
+
+pub returns-clause-full : goal.returns-clause-full
+returns-clause-full c = λ more.
+    let within : c.fill.result + 1 ≤ length c.self.inside.log.lines = omega (arith, more, c.requires.within, ap (λ (b : Diary). length b.history) c.self.view_is) in
+    let same = ap (λ l. kept_between l c.args.from (c.fill.result + 1)) c.self.invariant.fed ∙ kept_is_between c.self.inside.house c.self.inside.log.lines c.args.from (c.fill.result + 1) within ∙ ap (λ (b : Diary). deltas_between b.house b.history c.args.from (c.fill.result + 1)) c.self.view_is in
+    omega (arith, c.fill.ensures.full more, ap (λ (l : List Change). length l) same)

@@ -1,0 +1,22 @@
+use Rattle.std.proofs.Common.{sym, subst, arith, IsTrue}
+use Rattle.bp_core.specs.declared.line.Act.TheVariants.{Enrol}
+use Rattle.bp_core.specs.Acting.{Diary}
+use Rattle.bp_core.specs.Callers.{may_log}
+use Rattle.bp_core.proofs.Counts.{has_room}
+use Rattle.bp_core.proofs.KeptMore.{kept_more}
+use Rattle.bp_core.proofs.Enrolling.{enrol_is_legal, enrol_follows, enrol_is_small}
+use Rattle.bp_core.proofs.book.Book.enrol.Goals as goal
+
+pub set_standing-requires : goal.set_standing-requires
+set_standing-requires c = enrol_is_small _ _ _ c.self.invariant.legal (let P : Diary → Type 0 = λ b. IsTrue (may_log b.history c.args.caller Enrol) in subst P (sym c.self.view_is) c.requires.caller_may)
+
+pub logged-requires-clause-room : goal.logged-requires-clause-room
+logged-requires-clause-room c =
+    omega (arith, has_room _ _ c.self.invariant.legal, c.self.invariant.line_room)
+
+pub invariant_of-self : goal.invariant_of-self
+invariant_of-self c =
+    let P : Diary → Type 0 = λ b. IsTrue (may_log b.history c.args.caller Enrol) in
+    let may = subst P (sym c.self.view_is) c.requires.caller_may in
+    let small = enrol_is_small _ _ _ c.self.invariant.legal may in
+    rw c.set_standing.ensures (kept_more _ _ _ _ _ _ _ _ _ _ _ _ c.self.invariant (enrol_is_legal _ _ c.args.caller c.self.invariant.legal may) c.logged.ensures.log (enrol_follows _ _ _ _ _ _ c.args.caller c.self.invariant small may))

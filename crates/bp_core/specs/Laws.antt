@@ -1,0 +1,21 @@
+-- Laws over histories.
+use Rattle.std.specs.Prelude.{ℕ, ◌<◌, ◌≤◌, length, take}
+use Rattle.bp_types.specs.Limits.{IsWithinLimits}
+use Rattle.bp_types.specs.House.{Inn, IsHouse}
+use Rattle.bp_core.specs.Lines.{History}
+use Rattle.bp_core.specs.Instance.{rooms_at, sold_at, instance_of}
+use Rattle.bp_core.specs.Legal.{IsLegal}
+
+-- each prefix of a legal history that is not empty is legal
+abbrev pub PrefixesAreLegal : Type 0
+PrefixesAreLegal = (h : Inn) (H : History) (n : ℕ) → IsLegal h H → 1 ≤ n → n ≤ length H → IsLegal h (take n H)
+
+-- no night is sold above its rooms at any position, and the instance keeps to its limits
+pub record KeepsLimits (h : Inn) (H : History) : Type 0 where
+  pub not_oversold : (n : ℕ) → n < length h.rooms → sold_at h H n ≤ rooms_at h H n
+  pub instance : IsWithinLimits (instance_of h H)
+
+-- so it is at every position of a legal history
+abbrev pub NeverOversold : Type 0
+NeverOversold =
+    (h : Inn) (H : History) (position : ℕ) → IsHouse h → IsLegal h H → position ≤ length H → KeepsLimits h (take position H)

@@ -1,0 +1,13 @@
+pub mod Lines
+pub mod Callers
+pub mod Instance
+pub mod Changes
+pub mod Answer
+pub mod Legal
+pub mod Acting
+pub mod Laws
+pub mod Deltas
+pub mod Log
+pub mod Roll
+pub mod Held
+pub mod Keeping

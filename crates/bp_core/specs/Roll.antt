@@ -1,0 +1,49 @@
+-- What is kept of each caller: its standing, and its bookings in order.
+use Rattle.std.specs.Prelude.{ℕ, Bool, true, false, List, [], slice_set, slice_index_or}
+use Rattle.bp_core.specs.declared.roll.Standing.{Standing}
+use Rattle.bp_core.specs.declared.roll.Standing.TheVariants.{New, Present, Gone}
+use Rattle.bp_core.specs.declared.roll.Booking.{Booking}
+
+-- the callers by number, and for how many bookings of each there is room
+pub record Kept : Type 0 where
+  pub standings : List Standing
+  pub bookings : List (List Booking)
+  pub room : ℕ
+
+-- how many numbers of callers there are, the opener's among them
+abbrev pub callers : ℕ
+callers = 64
+
+-- the standing of a caller
+abbrev pub standing_of : Kept → ℕ → Standing
+standing_of k caller = slice_index_or k.standings caller New
+
+-- the bookings of a caller
+abbrev pub bookings_of : Kept → ℕ → List Booking
+bookings_of k caller = slice_index_or k.bookings caller []
+
+-- the callers with one of another standing
+abbrev pub with_standing : Kept → ℕ → Standing → Kept
+with_standing k caller standing = record k { standings = slice_set k.standings caller standing }
+
+-- the callers with other bookings of one
+abbrev pub with_bookings : Kept → ℕ → List Booking → Kept
+with_bookings k caller bookings = record k { bookings = slice_set k.bookings caller bookings }
+
+-- the caller has no entry yet
+abbrev pub is_new : Standing → Bool
+is_new New = true
+is_new Present = false
+is_new Gone = false
+
+-- the caller has enrolled and not left
+abbrev pub is_present : Standing → Bool
+is_present New = false
+is_present Present = true
+is_present Gone = false
+
+-- the caller has left
+abbrev pub is_gone : Standing → Bool
+is_gone New = false
+is_gone Present = false
+is_gone Gone = true

@@ -1,0 +1,13 @@
+//! Laws over histories, as the contracts of functions that do nothing.
+
+ghost use Rattle.bp_core.specs.Laws.{PrefixesAreLegal, NeverOversold};
+
+/// Each prefix of a legal history that is not empty is legal.
+pub fn prefixes_are_legal()
+    ensures { PrefixesAreLegal }
+{}
+
+/// In a legal history no night is sold above its rooms, and the instance keeps to its limits, at every position.
+pub fn never_oversold()
+    ensures { NeverOversold }
+{}

@@ -1,0 +1,17 @@
+//! The pure desk: a history of entries, each the answer of its moment, with no thread and no clock.
+//!
+//! Nights, stays and places are numbered from 0, rooms are whole rooms, forecasts and displacements are
+//! counted in the units of the house, and money is in minor units.
+#![tactic(auto)]
+
+mod book;
+mod call;
+mod deltas;
+pub mod law;
+mod line;
+mod log;
+mod roll;
+
+pub use book::Book;
+pub use call::{Answer, Call};
+pub use line::{Act, Entry, Line, Reply};

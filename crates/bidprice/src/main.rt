@@ -2,10 +2,9 @@
 #![tactic(auto)]
 
 use bp_edges::{FileShelf, NoGate, OutSink};
-use std::env;
 use std::env::Env;
-use std::io;
 use std::process::ExitCode;
+use std::{env, io};
 
 const NO_TEXT: u8 = 2;
 
@@ -34,14 +33,7 @@ fn main(rt: HostRuntime) -> ExitCode {
         Ok(words) => {
             let mut shelf = FileShelf::new(&rt);
             let mut out = OutSink::new(&rt);
-            ExitCode::from(bp_run::run(
-                &rt,
-                rt.alloc(),
-                &words,
-                &mut shelf,
-                &mut out,
-                &NoGate,
-            ))
+            ExitCode::from(bp_run::run(&rt, rt.alloc(), &words, &mut shelf, &mut out, &NoGate))
         }
         Err(error) => ExitCode::from(no_words(&error)),
     }

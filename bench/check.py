@@ -13,6 +13,8 @@ import subprocess
 import sys
 import time
 
+from generate import generate, problem_text, words
+
 HERE = os.path.dirname(os.path.abspath(__file__))
 TOP = os.path.dirname(HERE)
 FOLDER = os.path.join(TOP, "out", "bench")
@@ -21,36 +23,8 @@ SIZES = [500, 1000, 2000, 4000]
 RUNS = 40
 
 
-def generate(seed, nights, rooms, stays):
-    """Rooms of each night, and stays (from, to, rate, forecast), from a linear congruential generator."""
-    x = seed + 1
-
-    def draw(m):
-        nonlocal x
-        x = 16807 * x % 2147483647
-        return x % m
-
-    rows = []
-    for _ in range(stays):
-        start = draw(nights)
-        length = 1 + draw(min(7, nights - start))
-        rate = length * (5000 + draw(10000))
-        rows.append((start, start + length, rate, draw(20)))
-    return [rooms] * nights, rows
-
-
-def problem_text(rooms, rows):
-    lines = ["problem 1", f"nights {len(rooms)}", words("rooms", rooms), f"stays {len(rows)}"]
-    lines += [words("stay", row) for row in rows]
-    return "\n".join(lines + ["end", ""])
-
-
 def certificate_text(value, sell, prices):
     return "\n".join(["certificate 1", f"value {value}", words("sell", sell), words("prices", prices), "end", ""])
-
-
-def words(word, numbers):
-    return " ".join([word, *map(str, numbers)])
 
 
 def solved(rooms, rows, name):

@@ -15,32 +15,9 @@ import sys
 import tempfile
 import time
 
+from generate import generate, problem_text
+
 SIZES = [(7, 120, 50, 800), (7, 365, 120, 3000), (7, 400, 120, 4000)]
-
-
-def generate(seed, nights, rooms, stays):
-    """The generator of the command `demo`: rooms of each night, and stays."""
-    x = seed + 1
-
-    def draw(m):
-        nonlocal x
-        x = 16807 * x % 2147483647
-        return x % m
-
-    rows = []
-    for _ in range(stays):
-        start = draw(nights)
-        length = 1 + draw(min(7, nights - start))
-        rate = length * (5000 + draw(10000))
-        forecast = draw(20)
-        rows.append((start, start + length, rate, forecast))
-    return [rooms] * nights, rows
-
-
-def problem_text(rooms, rows):
-    lines = ["problem 1", f"nights {len(rooms)}", "rooms " + " ".join(map(str, rooms)), f"stays {len(rows)}"]
-    lines += ["stay " + " ".join(map(str, row)) for row in rows]
-    return "\n".join(lines + ["end", ""])
 
 
 def mps_line(kind, *fields):

@@ -3,7 +3,7 @@ use Rattle.std.specs.Prelude.{◌≡◌, ℕ, ◌+◌, ◌<◌, true, false, len
 use Rattle.bp_types.specs.declared.stay.Span.{Span}
 use Rattle.bp_types.specs.declared.change.Change.TheVariants.{Rooms}
 use Rattle.bp_types.specs.Program.{Program}
-use Rattle.bp_types.specs.Changes.{changed, HasUnits}
+use Rattle.bp_types.specs.Changes.{changed, IsSpanOf, HasUnits}
 use Rattle.bp_types.specs.Optimum.{IsOptimum}
 
 -- the program with so many units fewer on each night of a span
@@ -16,6 +16,7 @@ with_more p span units = changed p (Rooms span true units)
 
 -- what the optimum loses where so many units are taken from each night of a span
 pub record IsDisplacement (p : Program) (span : Span) (units cost : ℕ) : Type 0 where
+  pub in_range : IsSpanOf p span
   pub has_units : HasUnits p span units
   pub before : ℕ
   pub after : ℕ

@@ -1,0 +1,6 @@
+use Rattle.bp_core_tests.specs.Desks.{Continues}
+use Rattle.bp_core_tests.proofs.desk.Desk.run.Given as goal
+
+-- the rows before this one are called
+abbrev pub invariant-loop-row : goal.invariant-loop-row
+invariant-loop-row g l = Continues l.fn.self l.self

@@ -1,0 +1,7 @@
+//! Tests of a book: the worked cases, and a table of calls with each reply worked out by hand from the rules.
+#![tactic(auto)]
+
+#[cfg(test)]
+mod desk;
+#[cfg(test)]
+mod tests;

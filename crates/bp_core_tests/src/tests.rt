@@ -1,0 +1,844 @@
+use crate::desk::{Claimed, Desk, Row};
+use bp_core::Act::{Do, Enrol, Leave};
+use bp_core::Answer;
+use bp_core::Answer::{Behind, HistoryFull, Logged, Stale, Superseded, Unquoted};
+use bp_core::Reply::{
+    Accepted, AlreadyCancelled, BelowSold, Cancelled, Done, GroupAccepted, GroupNoRoom,
+    GroupTooLow, NoRoom, NotBooked, TooLow, Vector,
+};
+use bp_types::Command::{Book, Cancel, Group, Reforecast, Reprice, Resize};
+use bp_types::{Change, Limits, Span, Stay};
+use std::alloc::Global;
+use std::test::Fail;
+
+const N0: Span = Span { from: 0, to: 1 };
+
+const N1: Span = Span { from: 1, to: 2 };
+
+const N2: Span = Span { from: 2, to: 3 };
+
+const N01: Span = Span { from: 0, to: 2 };
+
+const N12: Span = Span { from: 1, to: 3 };
+
+const N012: Span = Span { from: 0, to: 3 };
+
+const ROOMS: [u64; 3] = [2, 1, 2];
+
+const STAYS: [Stay; 4] = [
+    Stay {
+        span: N01,
+        rate: 100,
+        forecast: 3,
+    },
+    Stay {
+        span: N12,
+        rate: 150,
+        forecast: 1,
+    },
+    Stay {
+        span: N0,
+        rate: 60,
+        forecast: 1,
+    },
+    Stay {
+        span: N2,
+        rate: 40,
+        forecast: 5,
+    },
+];
+
+const OPENING: Claimed<'static> = (250, &[0, 1, 1, 1], &[0, 100, 40]);
+
+const WITHOUT_ONE_EACH: Claimed<'static> = (100, &[0, 0, 1, 1], &[0, 110, 40]);
+
+// What is left of the book of three nights after one booking of the first stay.
+const AFTER_ONE: Claimed<'static> = (140, &[0, 0, 1, 2], &[0, 110, 40]);
+
+const LIMITS: Limits = Limits {
+    stale_after: 10,
+    entries: 200,
+    publications: 10,
+    unit: 1,
+};
+
+fn three_nights(alloc: Global, limits: Limits) -> Result<Desk, Fail> {
+    Desk::open(alloc, &ROOMS, &[0, 0, 0], &STAYS, limits, OPENING)
+}
+
+const A_TIE: [Row; 4] = [
+    (1, Enrol, Logged(Done)),
+    (
+        1,
+        Do(Book { stay: 0 }),
+        Logged(Accepted {
+            vector: 0,
+            sum: 100,
+        }),
+    ),
+    (
+        1,
+        Do(Book { stay: 1 }),
+        Logged(NoRoom {
+            vector: 0,
+            sum: 140,
+            night: 1,
+        }),
+    ),
+    (
+        1,
+        Do(Book { stay: 3 }),
+        Behind {
+            position: 0,
+            changes: 2,
+        },
+    ),
+];
+
+const NO_LONGER_BEHIND: [Row; 2] = [
+    (
+        1,
+        Do(Book { stay: 3 }),
+        Logged(Accepted { vector: 1, sum: 40 }),
+    ),
+    (1, Leave, Logged(Done)),
+];
+
+#[test]
+fn a_tie_is_accepted_and_a_booking_waits_for_a_vector(rt: HostRuntime) -> Result<(), Fail> {
+    let alloc = rt.alloc();
+    let mut desk = three_nights(
+        alloc,
+        Limits {
+            stale_after: 2,
+            ..LIMITS
+        },
+    )?;
+    desk.run(&rt, &A_TIE);
+    assert_eq!(rt; desk.book().length(), 4);
+    let next = desk.publish(alloc, 1, (140, &[0, 0, 1, 2], &[60, 40, 40]), 2)?;
+    assert_eq!(rt; next, Some(Logged(Vector { number: 1 })));
+    desk.run(&rt, &NO_LONGER_BEHIND);
+    let last = desk.publish(alloc, 0, (100, &[0, 0, 1, 1], &[60, 40, 40]), 1)?;
+    assert_eq!(rt; last, Some(Logged(Vector { number: 2 })));
+    assert_eq!(rt; desk.book().left(1), 1);
+    Ok(())
+}
+
+const TWICE: [Row; 6] = [
+    (1, Enrol, Logged(Done)),
+    (
+        1,
+        Do(Book { stay: 0 }),
+        Logged(Accepted {
+            vector: 0,
+            sum: 100,
+        }),
+    ),
+    (1, Do(Cancel { nth: 1 }), Logged(Cancelled)),
+    (1, Do(Cancel { nth: 1 }), Logged(AlreadyCancelled)),
+    (1, Do(Cancel { nth: 2 }), Logged(NotBooked)),
+    (1, Leave, Logged(Done)),
+];
+
+const REPRICED: [Row; 5] = [
+    (1, Enrol, Logged(Done)),
+    (
+        1,
+        Do(Book { stay: 0 }),
+        Logged(Accepted {
+            vector: 0,
+            sum: 100,
+        }),
+    ),
+    (1, Do(Reprice { stay: 0, rate: 99 }), Logged(Done)),
+    (
+        1,
+        Do(Book { stay: 0 }),
+        Logged(TooLow {
+            vector: 0,
+            sum: 100,
+            rate: 99,
+        }),
+    ),
+    (1, Leave, Logged(Done)),
+];
+
+const BELOW: [Row; 3] = [
+    (1, Enrol, Logged(Done)),
+    (
+        1,
+        Do(Resize { night: 1, rooms: 0 }),
+        Logged(BelowSold { sold: 1 }),
+    ),
+    (1, Leave, Logged(Done)),
+];
+
+const NOTHING_CHANGED: Answer = Superseded {
+    position: 0,
+    changes: 0,
+};
+
+// Rooms sold at the opening and its vector, the calls, and what caller 0 is answered who publishes after them.
+type Case = (
+    &'static [u64],
+    Claimed<'static>,
+    &'static [Row],
+    Claimed<'static>,
+    Answer,
+);
+
+const CASES: [(&str, Case); 3] = [
+    (
+        "cancelled twice",
+        (
+            &[0, 0, 0],
+            OPENING,
+            &TWICE,
+            OPENING,
+            Logged(Vector { number: 1 }),
+        ),
+    ),
+    (
+        "a rate changed between two bookings",
+        (
+            &[0, 0, 0],
+            OPENING,
+            &REPRICED,
+            AFTER_ONE,
+            Logged(Vector { number: 1 }),
+        ),
+    ),
+    (
+        "fewer rooms than sold",
+        (
+            &[0, 1, 1],
+            WITHOUT_ONE_EACH,
+            &BELOW,
+            WITHOUT_ONE_EACH,
+            NOTHING_CHANGED,
+        ),
+    ),
+];
+
+#[test]
+fn worked_cases_up_to_their_last_vector(rt: HostRuntime) -> Result<(), Fail> {
+    let alloc = rt.alloc();
+    for (name, (sold, opening, rows, closing, want)) in &CASES {
+        let mut desk = Desk::open(alloc, &ROOMS, sold, &STAYS, LIMITS, *opening)?;
+        desk.run(&rt, rows);
+        let got = desk.publish(alloc, 0, *closing, 1)?;
+        assert_eq!(rt; got, Some(*want), "{name}");
+        assert_eq!(rt; desk.ask(1, Enrol), None, "{name}");
+        assert_eq!(rt; desk.ask(1, Leave), None, "{name}");
+    }
+    Ok(())
+}
+
+const FULL_NIGHT: [Row; 2] = [
+    (
+        1,
+        Do(Group {
+            span: N1,
+            rooms: 1,
+            amount: 0,
+        }),
+        Logged(GroupNoRoom { night: 1 }),
+    ),
+    (1, Leave, Logged(Done)),
+];
+
+const HALVES: [Stay; 4] = [
+    Stay {
+        span: N01,
+        rate: 100,
+        forecast: 300,
+    },
+    Stay {
+        span: N12,
+        rate: 150,
+        forecast: 50,
+    },
+    Stay {
+        span: N0,
+        rate: 60,
+        forecast: 100,
+    },
+    Stay {
+        span: N2,
+        rate: 40,
+        forecast: 500,
+    },
+];
+
+const IN_HALVES: Claimed<'static> = (24_500, &[50, 50, 100, 150], &[0, 100, 40]);
+
+const HALVES_WITHOUT: Claimed<'static> = (10_000, &[0, 0, 100, 100], &[0, 110, 40]);
+
+// The unit, the stays, the certificates with and without one room on nights 1 and 2, and what such a room displaces.
+type Units = (
+    u64,
+    &'static [Stay],
+    Claimed<'static>,
+    Claimed<'static>,
+    u64,
+    u128,
+);
+
+const UNITS: [Units; 2] = [
+    (1, &STAYS, OPENING, WITHOUT_ONE_EACH, 150, 150),
+    (100, &HALVES, IN_HALVES, HALVES_WITHOUT, 145, 14_500),
+];
+
+#[test]
+fn three_groups_in_rooms_and_in_hundredths(rt: HostRuntime) -> Result<(), Fail> {
+    let alloc = rt.alloc();
+    for (unit, stays, with, without, amount, displacement) in &UNITS {
+        let (unit, displacement) = (*unit, *displacement);
+        let limits = Limits { unit, ..LIMITS };
+        let mut desk = Desk::open(alloc, &ROOMS, &[0, 0, 0], stays, limits, *with)?;
+        desk.run(&rt, &[(1, Enrol, Logged(Done))]);
+        let quote = desk.quote(alloc, N12, 1, *with, *without)?;
+        let low = desk.group(1, N12, 1, amount.saturating_sub(1), quote);
+        assert_eq!(rt; low, Some(Logged(GroupTooLow { displacement })), "{unit}");
+        let quote = desk.quote(alloc, N12, 1, *with, *without)?;
+        let tie = desk.group(1, N12, 1, *amount, quote);
+        assert_eq!(rt; tie, Some(Logged(GroupAccepted { displacement })), "{unit}");
+        desk.run(&rt, &FULL_NIGHT);
+        let last = desk.publish(alloc, 0, *without, 1)?;
+        assert_eq!(rt; last, Some(Logged(Vector { number: 1 })), "{unit}");
+    }
+    Ok(())
+}
+
+#[test]
+fn a_quote_is_stale_after_one_booking(rt: HostRuntime) -> Result<(), Fail> {
+    let alloc = rt.alloc();
+    let mut desk = three_nights(alloc, LIMITS)?;
+    let quote = desk.quote(alloc, N12, 1, OPENING, WITHOUT_ONE_EACH)?;
+    desk.run(
+        &rt,
+        &[(
+            0,
+            Do(Book { stay: 2 }),
+            Logged(Accepted { vector: 0, sum: 0 }),
+        )],
+    );
+    assert_eq!(rt;
+        desk.group(0, N12, 1, 150, quote),
+        Some(Stale { changes: 1 })
+    );
+    assert_eq!(rt; desk.book().length(), 2);
+    Ok(())
+}
+
+const TO_FOUR: [Row; 3] = [
+    (1, Enrol, Logged(Done)),
+    (
+        1,
+        Do(Book { stay: 0 }),
+        Logged(Accepted {
+            vector: 0,
+            sum: 100,
+        }),
+    ),
+    (1, Do(Cancel { nth: 1 }), Logged(Cancelled)),
+];
+
+const TO_NINE: [Row; 5] = [
+    (1, Do(Cancel { nth: 1 }), Logged(AlreadyCancelled)),
+    (1, Do(Cancel { nth: 2 }), Logged(NotBooked)),
+    (
+        1,
+        Do(Book { stay: 1 }),
+        Logged(Accepted {
+            vector: 0,
+            sum: 140,
+        }),
+    ),
+    (1, Do(Cancel { nth: 2 }), Logged(Cancelled)),
+    (
+        1,
+        Do(Book { stay: 3 }),
+        Logged(Accepted { vector: 0, sum: 40 }),
+    ),
+];
+
+#[test]
+fn an_older_board_is_superseded(rt: HostRuntime) -> Result<(), Fail> {
+    let alloc = rt.alloc();
+    let mut desk = three_nights(alloc, LIMITS)?;
+    desk.run(&rt, &TO_FOUR);
+    let older = desk.board(alloc, OPENING)?;
+    desk.run(&rt, &TO_NINE);
+    let newer = desk.publish(alloc, 1, (200, &[1, 0, 1, 1], &[0, 100, 40]), 5)?;
+    assert_eq!(rt; newer, Some(Logged(Vector { number: 1 })));
+    assert_eq!(rt;
+        desk.post(1, older, 1),
+        Some(Superseded {
+            position: 9,
+            changes: 0
+        })
+    );
+    assert_eq!(rt; desk.book().vectors(), 2);
+    Ok(())
+}
+
+#[test]
+fn there_are_63_callers_and_each_enrols_once(rt: HostRuntime) -> Result<(), Fail> {
+    let mut desk = three_nights(rt.alloc(), LIMITS)?;
+    assert_eq!(rt; desk.ask(0, Enrol), None);
+    for caller in 1..64 {
+        assert_eq!(rt; desk.ask(caller, Enrol), Some(Logged(Done)), "{caller}");
+    }
+    for caller in 0..65 {
+        assert_eq!(rt; desk.ask(caller, Enrol), None, "{caller}");
+    }
+    assert_eq!(rt; desk.book().length(), 64);
+    Ok(())
+}
+
+#[test]
+fn changes_are_told_by_whole_entries(rt: HostRuntime) -> Result<(), Fail> {
+    let alloc = rt.alloc();
+    let mut desk = three_nights(alloc, LIMITS)?;
+    desk.run(&rt, &A_TIE[..3]);
+    assert!(rt; desk.book().length() == 4);
+    let sale = Change::Rooms {
+        span: N01,
+        up: false,
+        units: 1,
+    };
+    let mut first = Vec::with_capacity(alloc, 2)?;
+    assert_eq!(rt; desk.book().changes(0, &mut first), 3);
+    let booked = [sale, Change::Demand { stay: 0, value: 2 }];
+    assert!(rt; first.as_slice() == booked.as_slice());
+    let mut rest = Vec::with_capacity(alloc, 2)?;
+    assert_eq!(rt; desk.book().changes(3, &mut rest), 4);
+    assert!(rt; rest.as_slice() == [Change::Demand { stay: 1, value: 0 }].as_slice());
+    Ok(())
+}
+
+const ONE_VECTOR: [Row; 61] = [
+    (1, Enrol, Logged(Done)),
+    (2, Enrol, Logged(Done)),
+    (
+        1,
+        Do(Book { stay: 0 }),
+        Logged(Accepted {
+            vector: 0,
+            sum: 100,
+        }),
+    ),
+    (
+        1,
+        Do(Book { stay: 0 }),
+        Logged(NoRoom {
+            vector: 0,
+            sum: 100,
+            night: 1,
+        }),
+    ),
+    (
+        2,
+        Do(Book { stay: 1 }),
+        Logged(NoRoom {
+            vector: 0,
+            sum: 140,
+            night: 1,
+        }),
+    ),
+    (
+        2,
+        Do(Book { stay: 2 }),
+        Logged(Accepted { vector: 0, sum: 0 }),
+    ),
+    (
+        1,
+        Do(Book { stay: 2 }),
+        Logged(NoRoom {
+            vector: 0,
+            sum: 0,
+            night: 0,
+        }),
+    ),
+    (
+        1,
+        Do(Book { stay: 0 }),
+        Logged(NoRoom {
+            vector: 0,
+            sum: 100,
+            night: 0,
+        }),
+    ),
+    (
+        2,
+        Do(Book { stay: 3 }),
+        Logged(Accepted { vector: 0, sum: 40 }),
+    ),
+    (
+        0,
+        Do(Book { stay: 3 }),
+        Logged(Accepted { vector: 0, sum: 40 }),
+    ),
+    (
+        0,
+        Do(Book { stay: 3 }),
+        Logged(NoRoom {
+            vector: 0,
+            sum: 40,
+            night: 2,
+        }),
+    ),
+    (1, Do(Cancel { nth: 2 }), Logged(NotBooked)),
+    (1, Do(Cancel { nth: 5 }), Logged(NotBooked)),
+    (2, Do(Cancel { nth: 1 }), Logged(NotBooked)),
+    (1, Do(Cancel { nth: 1 }), Logged(Cancelled)),
+    (1, Do(Cancel { nth: 1 }), Logged(AlreadyCancelled)),
+    (
+        2,
+        Do(Book { stay: 0 }),
+        Logged(Accepted {
+            vector: 0,
+            sum: 100,
+        }),
+    ),
+    (1, Do(Cancel { nth: 1 }), Logged(AlreadyCancelled)),
+    (2, Do(Cancel { nth: 4 }), Logged(Cancelled)),
+    (1, Do(Reprice { stay: 0, rate: 99 }), Logged(Done)),
+    (
+        1,
+        Do(Book { stay: 0 }),
+        Logged(TooLow {
+            vector: 0,
+            sum: 100,
+            rate: 99,
+        }),
+    ),
+    (2, Do(Reprice { stay: 0, rate: 101 }), Logged(Done)),
+    (
+        1,
+        Do(Book { stay: 0 }),
+        Logged(Accepted {
+            vector: 0,
+            sum: 100,
+        }),
+    ),
+    (1, Do(Reprice { stay: 1, rate: 139 }), Logged(Done)),
+    (
+        1,
+        Do(Book { stay: 1 }),
+        Logged(TooLow {
+            vector: 0,
+            sum: 140,
+            rate: 139,
+        }),
+    ),
+    (
+        1,
+        Do(Resize { night: 1, rooms: 0 }),
+        Logged(BelowSold { sold: 1 }),
+    ),
+    (1, Do(Resize { night: 1, rooms: 1 }), Logged(Done)),
+    (
+        2,
+        Do(Resize { night: 2, rooms: 1 }),
+        Logged(BelowSold { sold: 2 }),
+    ),
+    (2, Do(Resize { night: 2, rooms: 3 }), Logged(Done)),
+    (
+        2,
+        Do(Book { stay: 3 }),
+        Logged(Accepted { vector: 0, sum: 40 }),
+    ),
+    (
+        1,
+        Do(Group {
+            span: N012,
+            rooms: 1,
+            amount: 1000,
+        }),
+        Logged(GroupNoRoom { night: 0 }),
+    ),
+    (1, Do(Cancel { nth: 6 }), Logged(Cancelled)),
+    (
+        1,
+        Do(Group {
+            span: N012,
+            rooms: 1,
+            amount: 1000,
+        }),
+        Logged(GroupNoRoom { night: 2 }),
+    ),
+    (
+        1,
+        Do(Group {
+            span: N01,
+            rooms: 2,
+            amount: 1000,
+        }),
+        Logged(GroupNoRoom { night: 0 }),
+    ),
+    (
+        1,
+        Do(Group {
+            span: N01,
+            rooms: 1,
+            amount: 1000,
+        }),
+        Unquoted,
+    ),
+    (1, Do(Resize { night: 0, rooms: 4 }), Logged(Done)),
+    (
+        1,
+        Do(Group {
+            span: N01,
+            rooms: 2,
+            amount: 0,
+        }),
+        Logged(GroupNoRoom { night: 1 }),
+    ),
+    (
+        1,
+        Do(Group {
+            span: N0,
+            rooms: 4,
+            amount: 0,
+        }),
+        Logged(GroupNoRoom { night: 0 }),
+    ),
+    (
+        1,
+        Do(Group {
+            span: N0,
+            rooms: 3,
+            amount: 0,
+        }),
+        Unquoted,
+    ),
+    (2, Do(Reforecast { stay: 2, count: 0 }), Logged(Done)),
+    (
+        2,
+        Do(Book { stay: 2 }),
+        Logged(Accepted { vector: 0, sum: 0 }),
+    ),
+    (2, Do(Reforecast { stay: 2, count: 7 }), Logged(Done)),
+    (
+        2,
+        Do(Book { stay: 2 }),
+        Logged(Accepted { vector: 0, sum: 0 }),
+    ),
+    (3, Enrol, Logged(Done)),
+    (3, Do(Cancel { nth: 1 }), Logged(NotBooked)),
+    (
+        3,
+        Do(Book { stay: 2 }),
+        Logged(Accepted { vector: 0, sum: 0 }),
+    ),
+    (
+        3,
+        Do(Book { stay: 2 }),
+        Logged(NoRoom {
+            vector: 0,
+            sum: 0,
+            night: 0,
+        }),
+    ),
+    (3, Do(Cancel { nth: 1 }), Logged(Cancelled)),
+    (3, Leave, Logged(Done)),
+    (0, Do(Resize { night: 0, rooms: 3 }), Logged(Done)),
+    (
+        2,
+        Do(Book { stay: 2 }),
+        Logged(NoRoom {
+            vector: 0,
+            sum: 0,
+            night: 0,
+        }),
+    ),
+    (2, Do(Cancel { nth: 8 }), Logged(NotBooked)),
+    (2, Do(Cancel { nth: 7 }), Logged(Cancelled)),
+    (2, Do(Cancel { nth: 2 }), Logged(Cancelled)),
+    (2, Do(Cancel { nth: 3 }), Logged(Cancelled)),
+    (2, Do(Cancel { nth: 4 }), Logged(AlreadyCancelled)),
+    (2, Do(Cancel { nth: 5 }), Logged(Cancelled)),
+    (2, Do(Cancel { nth: 6 }), Logged(Cancelled)),
+    (2, Do(Cancel { nth: 9 }), Logged(NotBooked)),
+    (0, Do(Cancel { nth: 1 }), Logged(Cancelled)),
+    (0, Do(Cancel { nth: 2 }), Logged(NotBooked)),
+];
+
+// All rooms are free, three guests are awaited of the third stay and one of the fourth.
+const SECOND: Claimed<'static> = (220, &[0, 0, 3, 1], &[60, 0, 0]);
+
+const NEXT_VECTOR: [Row; 39] = [
+    (0, Do(Resize { night: 2, rooms: 0 }), Logged(Done)),
+    (
+        1,
+        Do(Book { stay: 3 }),
+        Logged(NoRoom {
+            vector: 1,
+            sum: 0,
+            night: 2,
+        }),
+    ),
+    (1, Do(Reprice { stay: 2, rate: 59 }), Logged(Done)),
+    (
+        1,
+        Do(Book { stay: 2 }),
+        Logged(TooLow {
+            vector: 1,
+            sum: 60,
+            rate: 59,
+        }),
+    ),
+    (1, Do(Reprice { stay: 2, rate: 60 }), Logged(Done)),
+    (
+        1,
+        Do(Book { stay: 2 }),
+        Logged(Accepted { vector: 1, sum: 60 }),
+    ),
+    (
+        1,
+        Do(Book { stay: 1 }),
+        Logged(NoRoom {
+            vector: 1,
+            sum: 0,
+            night: 2,
+        }),
+    ),
+    (1, Do(Resize { night: 2, rooms: 1 }), Logged(Done)),
+    (
+        1,
+        Do(Book { stay: 1 }),
+        Logged(Accepted { vector: 1, sum: 0 }),
+    ),
+    (
+        1,
+        Do(Resize { night: 1, rooms: 0 }),
+        Logged(BelowSold { sold: 1 }),
+    ),
+    (1, Do(Cancel { nth: 12 }), Logged(Cancelled)),
+    (1, Do(Resize { night: 1, rooms: 0 }), Logged(Done)),
+    (
+        1,
+        Do(Book { stay: 0 }),
+        Logged(NoRoom {
+            vector: 1,
+            sum: 60,
+            night: 1,
+        }),
+    ),
+    (
+        2,
+        Do(Group {
+            span: N1,
+            rooms: 1,
+            amount: 0,
+        }),
+        Logged(GroupNoRoom { night: 1 }),
+    ),
+    (2, Do(Reprice { stay: 0, rate: 59 }), Logged(Done)),
+    (
+        2,
+        Do(Book { stay: 0 }),
+        Logged(TooLow {
+            vector: 1,
+            sum: 60,
+            rate: 59,
+        }),
+    ),
+    (2, Do(Cancel { nth: 9 }), Logged(NotBooked)),
+    (
+        2,
+        Do(Book { stay: 3 }),
+        Logged(Accepted { vector: 1, sum: 0 }),
+    ),
+    (2, Do(Cancel { nth: 10 }), Logged(Cancelled)),
+    (1, Do(Cancel { nth: 10 }), Logged(Cancelled)),
+    (1, Do(Cancel { nth: 12 }), Logged(AlreadyCancelled)),
+    (
+        2,
+        Do(Group {
+            span: N0,
+            rooms: 3,
+            amount: 0,
+        }),
+        Unquoted,
+    ),
+    (
+        2,
+        Do(Group {
+            span: N0,
+            rooms: 4,
+            amount: 0,
+        }),
+        Logged(GroupNoRoom { night: 0 }),
+    ),
+    (
+        0,
+        Do(Book { stay: 2 }),
+        Logged(Accepted { vector: 1, sum: 60 }),
+    ),
+    (0, Do(Cancel { nth: 3 }), Logged(Cancelled)),
+    (1, Do(Book { stay: 2 }), HistoryFull),
+    (1, Do(Cancel { nth: 1 }), HistoryFull),
+    (
+        2,
+        Do(Group {
+            span: N0,
+            rooms: 4,
+            amount: 0,
+        }),
+        HistoryFull,
+    ),
+    (
+        2,
+        Do(Group {
+            span: N0,
+            rooms: 1,
+            amount: 0,
+        }),
+        HistoryFull,
+    ),
+    (0, Do(Reforecast { stay: 0, count: 1 }), HistoryFull),
+    (0, Do(Reprice { stay: 0, rate: 1 }), HistoryFull),
+    (0, Do(Resize { night: 0, rooms: 0 }), HistoryFull),
+    (1, Leave, Logged(Done)),
+    (4, Enrol, Logged(Done)),
+    (2, Leave, Logged(Done)),
+    (4, Leave, Logged(Done)),
+    (63, Enrol, Logged(Done)),
+    (63, Do(Book { stay: 0 }), HistoryFull),
+    (63, Leave, Logged(Done)),
+];
+
+#[test]
+fn a_hundred_calls_with_two_vectors(rt: HostRuntime) -> Result<(), Fail> {
+    let alloc = rt.alloc();
+    let limits = Limits {
+        stale_after: 100,
+        entries: 79,
+        publications: 2,
+        unit: 1,
+    };
+    let mut desk = three_nights(alloc, limits)?;
+    desk.run(&rt, &ONE_VECTOR);
+    let early = desk.publish(alloc, 2, SECOND, 39)?;
+    assert_eq!(rt;
+        early,
+        Some(Superseded {
+            position: 0,
+            changes: 38
+        })
+    );
+    let second = desk.publish(alloc, 2, SECOND, 38)?;
+    assert_eq!(rt; second, Some(Logged(Vector { number: 1 })));
+    desk.run(&rt, &NEXT_VECTOR);
+    let book = desk.book();
+    assert!(rt; book.length() == 91);
+    assert_eq!(rt; book.commands(), 79);
+    assert_eq!(rt; book.changes_after(60), 19);
+    assert_eq!(rt; (book.left(3), book.left(63)), (3, 5));
+    Ok(())
+}

@@ -8,7 +8,7 @@ use Rattle.bp_cert.specs.declared.text_error.TextError.TheVariants.{BadLine, Lim
 use Rattle.bp_cert.specs.Lines.{Line, Given, line_of}
 use Rattle.bp_cert.specs.Forms.{AreWithin}
 use Rattle.bp_cert.specs.Reading.{Begins, GivesLines, IsReading}
-use Rattle.bp_cert.specs.Texts.{claim_lines, certificate_lines, IsSpeakable}
+use Rattle.bp_cert.specs.Texts.{claim_lines, all_certificate_lines, IsSpeakable}
 use Rattle.bp_cert.proofs.LineLemmas.{line_injective}
 use Rattle.bp_cert.proofs.NextLemmas.{only_number}
 use Rattle.bp_cert.proofs.StageLemmas.{IsStage, more_lines}
@@ -101,20 +101,20 @@ first_line = codes "certificate 1"
 abbrev last_line : Line
 last_line = codes "end"
 
-wrapped : (v : Claim) (front : List Line) (line : Line) (more : List Line) → claim_lines v ≡ front ++ line ∷ more → certificate_lines v ≡ (first_line ∷ front) ++ line ∷ (more ++ last_line ∷ [])
+wrapped : (v : Claim) (front : List Line) (line : Line) (more : List Line) → claim_lines v ≡ front ++ line ∷ more → all_certificate_lines v ≡ (first_line ∷ front) ++ line ∷ (more ++ last_line ∷ [])
 wrapped v front line more e = ap (λ ls. first_line ∷ (ls ++ last_line ∷ [])) e ∙ ap (λ ls. first_line ∷ ls) (append_assoc front (line ∷ more) (last_line ∷ []))
 
 begins_short : (front : List Line) → Begins claim_lines IsSpeakable front → length front < 3
 begins_short front b = omega (arith, ap length b.4, length-append front (b.1 ∷ b.2))
 
-unwrapped : (v : Claim) (front : List Line) (line : Line) (more : List Line) → length front < 3 → certificate_lines v ≡ (first_line ∷ front) ++ line ∷ more → (rest : List Line) × (claim_lines v ≡ front ++ line ∷ rest)
+unwrapped : (v : Claim) (front : List Line) (line : Line) (more : List Line) → length front < 3 → all_certificate_lines v ≡ (first_line ∷ front) ++ line ∷ more → (rest : List Line) × (claim_lines v ≡ front ++ line ∷ rest)
 unwrapped v front line more short e = cut_front (claim_lines v) front last_line line more (tails first_line first_line (claim_lines v ++ last_line ∷ []) (front ++ line ∷ more) e) (omega arith)
 
-begins_wrapped : (front : List Line) → Begins claim_lines IsSpeakable front → Begins certificate_lines IsSpeakable (first_line ∷ front)
+begins_wrapped : (front : List Line) → Begins claim_lines IsSpeakable front → Begins all_certificate_lines IsSpeakable (first_line ∷ front)
 begins_wrapped front b = (b.0, b.1, b.2 ++ last_line ∷ [], b.3, wrapped b.0 front b.1 b.2 b.4)
 
 -- what is refused of the claim is refused of the certificate
-pub refused_claim : (start old new : Given) (e : TextError) → GivesLines start old (first_line ∷ []) old.rest → IsReading claim_lines IsSpeakable old new (Err e) → IsReading certificate_lines IsSpeakable start new (Err e)
+pub refused_claim : (start old new : Given) (e : TextError) → GivesLines start old (first_line ∷ []) old.rest → IsReading claim_lines IsSpeakable old new (Err e) → IsReading all_certificate_lines IsSpeakable start new (Err e)
 refused_claim start old new (BadLine place) before r = record {
   front = first_line ∷ r.front;
   line = r.line;
@@ -150,7 +150,7 @@ no_numbers : (ns : List ℕ) → length ns ≡ 0 → ns ≡ []
 no_numbers [] e = refl
 no_numbers (n ∷ ns) e = absurd (omega (arith, e))
 
-pub stage_first : IsStage certificate_lines IsSpeakable [] first_line (λ ns. length ns ≡ 0) (λ _. Unit {0})
+pub stage_first : IsStage all_certificate_lines IsSpeakable [] first_line (λ ns. length ns ≡ 0) (λ _. Unit {0})
 stage_first =
     let c : Claim = record { value = 0; sell = []; prices = [] } in
     record {
@@ -160,7 +160,7 @@ stage_first =
       fine = λ v ns more within none e. tt;
     }
 
-pub stage_end : (c : Claim) → IsSpeakable c → IsStage certificate_lines IsSpeakable (first_line ∷ claim_lines c) last_line (λ ns. length ns ≡ 0) (λ _. Unit {0})
+pub stage_end : (c : Claim) → IsSpeakable c → IsStage all_certificate_lines IsSpeakable (first_line ∷ claim_lines c) last_line (λ ns. length ns ≡ 0) (λ _. Unit {0})
 stage_end c within = record {
   begins = (c, last_line, [], within, refl);
   form = λ v line more e.

@@ -7,7 +7,7 @@ use Rattle.bp_types.specs.declared.stay.Stay.{Stay}
 use Rattle.bp_types.specs.Program.{Program}
 use Rattle.bp_types.specs.Claim.{Claim}
 use Rattle.bp_cert.specs.Lines.{Line, HasNoEnd, line_of}
-use Rattle.bp_cert.specs.Texts.{stay_line, stay_numbers, head_lines, stay_lines, problem_lines, certificate_lines}
+use Rattle.bp_cert.specs.Texts.{stay_line, stay_numbers, head_lines, stay_lines, problem_lines, all_certificate_lines}
 use Rattle.bp_cert.proofs.LineLemmas.{line_injective, no_end_in_line}
 use Rattle.bp_cert.proofs.SpellingLemmas.{IsSpelling, one_line}
 use Rattle.bp_cert.proofs.ProblemLemmas.{head_known}
@@ -69,7 +69,7 @@ problem_alone v w rest e =
 pub problems_are_spelled : IsSpelling problem_lines
 problems_are_spelled = record { no_ends = problem_no_ends; alone = problem_alone }
 
-claim_no_ends : (c : Claim) → All HasNoEnd (certificate_lines c)
+claim_no_ends : (c : Claim) → All HasNoEnd (all_certificate_lines c)
 claim_no_ends c =
     let end = codes "end" ∷ [] in
     let prices = line_of (codes "prices") c.prices ∷ end in
@@ -80,7 +80,7 @@ claim_no_ends c =
     let behind_first = line_in_front (line_of (codes "value") (c.value ∷ [])) sell (spelled (codes "value") (c.value ∷ []) refl) behind_value in
     line_in_front (codes "certificate 1") value (word_has_no_end (codes "certificate 1") refl) behind_first
 
-claim_alone : (v w : Claim) (rest : List Line) → certificate_lines w ≡ certificate_lines v ++ rest → (v ≡ w) × (rest ≡ [])
+claim_alone : (v w : Claim) (rest : List Line) → all_certificate_lines w ≡ all_certificate_lines v ++ rest → (v ≡ w) × (rest ≡ [])
 claim_alone v w rest e =
     let values = parted (value_line w) (value_line v) _ _ (parted (codes "certificate 1") (codes "certificate 1") _ _ e).1 in
     let sales = parted (line_of (codes "sell") w.sell) (line_of (codes "sell") v.sell) _ _ values.1 in
@@ -100,5 +100,5 @@ claim_alone v w rest e =
         let built : ℕ → List ℕ → List ℕ → Claim = λ v s p. record { value = v; sell = s; prices = p } in
         ap (λ v. built v c.sell c.prices) e ∙ ap (λ s. built d.value s c.prices) f ∙ ap (built d.value d.sell) g
 
-pub certificates_are_spelled : IsSpelling certificate_lines
+pub certificates_are_spelled : IsSpelling all_certificate_lines
 certificates_are_spelled = record { no_ends = claim_no_ends; alone = claim_alone }

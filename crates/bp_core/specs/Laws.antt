@@ -3,8 +3,10 @@ use Rattle.std.specs.Prelude.{ℕ, ◌<◌, ◌≤◌, length, take}
 use Rattle.bp_types.specs.Limits.{IsWithinLimits}
 use Rattle.bp_types.specs.House.{Inn, IsHouse}
 use Rattle.bp_core.specs.Lines.{History}
-use Rattle.bp_core.specs.Instance.{rooms_at, sold_at, instance_of}
+use Rattle.bp_core.specs.Instance.{rooms_at, sold_at, instance_of, instance_at}
+use Rattle.bp_core.specs.Changes.{deltas_between}
 use Rattle.bp_core.specs.Legal.{IsLegal}
+use Rattle.bp_core.specs.Leading.{Leads}
 
 -- each prefix of a legal history that is not empty is legal
 abbrev pub PrefixesAreLegal : Type 0
@@ -19,3 +21,8 @@ pub record KeepsLimits (h : Inn) (H : History) : Type 0 where
 abbrev pub NeverOversold : Type 0
 NeverOversold =
     (h : Inn) (H : History) (position : ℕ) → IsHouse h → IsLegal h H → position ≤ length H → KeepsLimits h (take position H)
+
+-- what stands between two positions of a legal history leads from the instance at the one to that at the other
+abbrev pub DeltasLead : Type 0
+DeltasLead =
+    (h : Inn) (H : History) (a b : ℕ) → IsHouse h → IsLegal h H → a ≤ b → b ≤ length H → Leads (instance_at h H a) (deltas_between h H a b) (instance_at h H b)

@@ -11,7 +11,9 @@ pub mod law;
 mod line;
 mod log;
 mod roll;
+mod threads;
 
 pub use book::Book;
 pub use call::{Answer, Call};
 pub use line::{Act, Entry, Line, Reply};
+pub use threads::book_crosses_threads;

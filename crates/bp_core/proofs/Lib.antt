@@ -32,3 +32,4 @@ pub mod Moves
 pub mod Causes
 pub mod LineLeads
 pub mod Between
+pub mod EveryList

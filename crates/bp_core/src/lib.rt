@@ -6,6 +6,7 @@
 
 mod book;
 mod call;
+mod calls;
 mod deltas;
 pub mod law;
 mod line;
@@ -15,5 +16,6 @@ mod threads;
 
 pub use book::Book;
 pub use call::{Answer, Call};
+pub use calls::{Made, make_all};
 pub use line::{Act, Entry, Line, Reply};
 pub use threads::book_crosses_threads;

@@ -1,4 +1,4 @@
-use crate::{Answer, Book, Call, Entry, Line};
+use crate::{Answer, Book, Call, Entry, Line, Made};
 
 fn moves<T: Send>() {}
 
@@ -9,5 +9,6 @@ pub fn book_crosses_threads() {
     moves::<Line>();
     moves::<Entry>();
     moves::<Call>();
+    moves::<Made>();
     moves::<Answer>();
 }

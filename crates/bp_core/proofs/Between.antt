@@ -1,9 +1,8 @@
 -- What stands between two positions leads from the instance at the one to that at the other.
-use Rattle.std.proofs.Common.{◌≡◌, ℕ, zero, suc, ◌+◌, ◌-◌, ◌<◌, ◌≤◌, refl, ap, sym, subst, ◌∙◌, arith, List, [], ◌∷◌, ◌++◌, length, take}
+use Rattle.std.proofs.Common.{◌≡◌, ℕ, zero, suc, ◌+◌, ◌-◌, ◌<◌, ◌≤◌, ap, sym, subst, arith, List, length, take}
 use Rattle.std.proofs.lemmas.List.{length-take-le}
 use Rattle.std.specs.List.{flat_map, range_with_len}
 use Rattle.bp_types.specs.declared.change.Change.{Change}
-use Rattle.bp_types.specs.Program.{Program}
 use Rattle.bp_types.specs.House.{Inn, IsHouse}
 use Rattle.bp_core.specs.Lines.{History, line_at}
 use Rattle.bp_core.specs.Changes.{deltas_at, deltas_between}

@@ -1,16 +1,13 @@
 -- What a reply that changes something says of its moment.
-use Rattle.std.proofs.Common.{◌≡◌, ℕ, ◌-◌, ◌<◌, refl, ap, sym, ◌∙◌, Bool, true, false, cond, Option, Some, None, is_some, inl, inr}
+use Rattle.std.proofs.Common.{◌≡◌, ℕ, ◌-◌, refl, Bool, true, false, cond, Option, Some, None, is_some}
 use Rattle.std.specs.List.{list_any}
-use Rattle.std.proofs.lemmas.Bool.{cases_Bool, and_parts}
-use Rattle.bp_types.specs.House.{Inn}
-use Rattle.bp_core.specs.declared.line.Act.{Act}
+use Rattle.std.proofs.lemmas.Bool.{and_parts}
 use Rattle.bp_core.specs.declared.line.Reply.{Reply}
 use Rattle.bp_core.specs.declared.line.Reply.TheVariants.{Cancelled, NotBooked, AlreadyCancelled, Done, GroupAccepted}
 use Rattle.bp_core.specs.declared.line.Line.{Line}
 use Rattle.bp_core.specs.Lines.{History, nth_book, booked_stay, is_book, is_book_by, is_by, is_accepted, is_cancelled, is_cancellation, is_done, is_group_accepted}
 use Rattle.bp_core.specs.Answer.{cancel_reply, given_up_reply}
 use Rattle.bp_core.specs.Held.{IsHeld}
-use Rattle.bp_core.proofs.Cases.{cases_Option}
 use Rattle.bp_core.proofs.Cancelling.{filter_stands}
 
 some_is : {X : Type 0} (o : Option X) → is_some o ≡ true → (x : X) × (o ≡ Some x)

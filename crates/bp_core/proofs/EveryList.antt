@@ -1,22 +1,20 @@
 -- Whatever list of calls that meet their conditions is made, the history is legal.
-use Rattle.std.proofs.Common.{◌≡◌, ℕ, ◌<◌, ◌≤◌, refl, ap, sym, subst, ◌∙◌, arith, Bool, true, false, cond, ◌==◌, nat_lt, nat_le, IsTrue, List, [], ◌∷◌, ◌++◌, length, Option, Some, None, MatchOption, inl, inr}
+use Rattle.std.proofs.Common.{◌≡◌, ℕ, ◌≤◌, refl, sym, subst, ◌∙◌, arith, Bool, true, false, cond, ◌==◌, nat_lt, IsTrue, List, [], ◌∷◌, Option, Some, None, MatchOption}
 use Rattle.std.specs.Arc.{arc_value}
-use Rattle.std.proofs.lemmas.Bool.{cases_Bool, cond-true, eq-eqb, lt-ltb, ltb-false, leb-false}
+use Rattle.std.proofs.lemmas.Bool.{eq-eqb, lt-ltb, ltb-false, leb-false}
 use Rattle.bp_types.specs.declared.command.Command.{Command}
 use Rattle.bp_types.specs.declared.command.Command.TheVariants.{Book, Cancel, Reforecast, Reprice, Resize, Group}
 use Rattle.bp_types.specs.declared.command.Quoted.{Quoted}
-use Rattle.bp_types.specs.House.{Inn, IsHouse, opening}
-use Rattle.bp_board.specs.Posted.{Posted}
-use Rattle.bp_core.specs.declared.line.Act.TheVariants.{Do as DoAct, Publish as PublishAct, Enrol as EnrolAct, Leave as LeaveAct}
+use Rattle.bp_types.specs.House.{Inn}
+use Rattle.bp_core.specs.declared.line.Act.TheVariants.{Do as DoAct}
 use Rattle.bp_core.specs.declared.line.Reply.{Reply}
-use Rattle.bp_core.specs.declared.line.Reply.TheVariants.{Vector}
 use Rattle.bp_core.specs.declared.line.Line.{Line}
 use Rattle.bp_core.specs.declared.call.Call.{Call}
 use Rattle.bp_core.specs.declared.call.Call.TheVariants.{Do, Publish, Enrol, Leave}
 use Rattle.bp_core.specs.declared.call.Answer.{Answer}
-use Rattle.bp_core.specs.declared.call.Answer.TheVariants.{HistoryFull, Behind, Superseded, PublicationsFull}
+use Rattle.bp_core.specs.declared.call.Answer.TheVariants.{HistoryFull, Superseded, PublicationsFull}
 use Rattle.bp_core.specs.declared.calls.Made.{Made}
-use Rattle.bp_core.specs.Acting.{Diary, MayCall, IsLogged, IsRefused, IsAnswered, refusal, refuse_if, command_refusal, act_of, line_of, plain_line, opening_line}
+use Rattle.bp_core.specs.Acting.{Diary, MayCall, IsLogged, IsRefused, IsAnswered, refusal, command_refusal, act_of, line_of, plain_line}
 use Rattle.bp_core.specs.Answer.{IsReply}
 use Rattle.bp_core.specs.Calls.{MayMakeAll, AreAnswered, opened_by}
 use Rattle.bp_core.specs.Changes.{changes_between, changes_after}

@@ -1,5 +1,5 @@
 -- Instances of two histories that differ in rooms, or in one stay.
-use Rattle.std.proofs.Common.{◌≡◌, ℕ, ◌+◌, ◌*◌, ◌-◌, ◌<◌, ◌≤◌, refl, ap, sym, ◌∙◌, arith, Bool, true, false, cond, List, [], ◌∷◌, length, map, set, get_or, slice_index, length-set, get_or-set_same, get_or-set_other, inl, inr}
+use Rattle.std.proofs.Common.{◌≡◌, ℕ, ◌+◌, ◌*◌, ◌<◌, ◌≤◌, refl, ap, sym, ◌∙◌, arith, Bool, true, false, cond, List, [], ◌∷◌, length, set, get_or, slice_index, length-set, get_or-set_same, get_or-set_other, inl, inr}
 use Rattle.std.proofs.Math.Nat.{mul-add, mul-sub, mul-le-mul_left}
 use Rattle.std.proofs.lemmas.Bool.{cases_eq}
 use Rattle.std.proofs.lemmas.List.FromFn.{fill_by_all, length-map-range_with_len, get_or-map-range_with_len}
@@ -15,7 +15,6 @@ use Rattle.bp_types.proofs.RoomLemmas.{length-rooms_moved, rooms_moved-at}
 use Rattle.bp_types.proofs.Spans.{covers_inside}
 use Rattle.bp_core.specs.Lines.{History}
 use Rattle.bp_core.specs.Instance.{span_of, left_at, units_left_at, rate_of, forecast_of, stay_now, instance_of}
-use Rattle.bp_core.specs.Keeping.{numbers}
 use Rattle.bp_core.specs.Leading.{Leads}
 use Rattle.bp_core.proofs.Effects.{numbers_same}
 use Rattle.bp_core.proofs.Ranges.{IsRate}

@@ -21,7 +21,7 @@ use Rattle.bp_core.specs.declared.line.Line.{Line}
 use Rattle.bp_core.specs.Acting.{plain_line}
 use Rattle.bp_core.specs.Lines.{History, is_accepted, is_book_by, is_cancelled, is_done, is_group_accepted}
 use Rattle.bp_core.specs.Instance.{span_of, rooms_at, sold_at, left_at, first_without, forecast_of, instance_of}
-use Rattle.bp_core.specs.Changes.{is_change, deltas_of, resize_delta, span_booked}
+use Rattle.bp_core.specs.Changes.{is_change, deltas_of}
 use Rattle.bp_core.specs.Legal.{IsLegal, IsLegalLine}
 use Rattle.bp_core.specs.Keeping.{inventory_of}
 use Rattle.bp_core.specs.Leading.{Leads}

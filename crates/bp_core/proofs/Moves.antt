@@ -1,6 +1,6 @@
 -- The rooms left as a line moves the stock.
-use Rattle.std.proofs.Common.{◌≡◌, ℕ, ◌+◌, ◌-◌, ◌<◌, ◌≤◌, refl, ap, sym, ◌∙◌, arith, Bool, true, false, cond, length, set, get_or, slice_index, get_or-set_same, get_or-set_other, inl, inr}
-use Rattle.std.proofs.lemmas.Bool.{cases_Bool, cases_eq, cases_lt, cond-true, cond-false, le-leb, lt-leb}
+use Rattle.std.proofs.Common.{◌≡◌, ℕ, ◌+◌, ◌-◌, ◌<◌, ◌≤◌, refl, ap, sym, ◌∙◌, arith, Bool, true, false, cond, length, slice_index, get_or-set_same, get_or-set_other, inl, inr}
+use Rattle.std.proofs.lemmas.Bool.{cases_eq, cases_lt, cond-true, cond-false}
 use Rattle.std.proofs.lemmas.List.FromFn.{length-map-range_with_len}
 use Rattle.bp_types.specs.declared.stay.Span.{Span}
 use Rattle.bp_types.specs.Displacement.{night_span}
@@ -11,10 +11,9 @@ use Rattle.bp_types.proofs.RoomLemmas.{rooms_moved-at}
 use Rattle.bp_types.proofs.Spans.{covers_inside, covers_before, covers_past}
 use Rattle.bp_ledger.specs.Inventory.{Inventory, taken, released, resized}
 use Rattle.bp_core.specs.Lines.{History}
-use Rattle.bp_core.specs.Instance.{rooms_at, sold_at, left_at, instance_of}
+use Rattle.bp_core.specs.Instance.{rooms_at, sold_at, left_at}
 use Rattle.bp_core.specs.Keeping.{inventory_of}
 use Rattle.bp_core.proofs.Stocking.{rooms_of_stock, sold_of_stock}
-use Rattle.bp_core.proofs.Instances.{rooms_as_before}
 
 rooms_read : (h : Inn) (H G : History) (v : Inventory) → v ≡ inventory_of h G → (n : ℕ) → n < length h.rooms → rooms_at h G n ≡ slice_index v.rooms n
 rooms_read h H G v is n g = sym (rooms_of_stock h G n g) ∙ ap (λ (w : Inventory). slice_index w.rooms n) (sym is)

@@ -2,7 +2,7 @@ ghost use Rattle.std.specs.Prelude.{◌+◌, ◌≤◌, IsErrOf};
 ghost use Rattle.bp_edges.specs.Counts.{Rose};
 ghost use Rattle.bp_edges.specs.Writing.{Writes};
 ghost use Rattle.bp_cert.specs.Reading.{IsReading, IsText};
-ghost use Rattle.bp_cert.specs.Texts.{claim_lines, certificate_lines as all_lines, certificate_text, IsSpeakable};
+ghost use Rattle.bp_cert.specs.Texts.{claim_lines, all_certificate_lines, certificate_text, IsSpeakable};
 
 use crate::TextError;
 use crate::lines::Lines;
@@ -46,7 +46,7 @@ pub fn certificate_lines(alloc: Global, lines: &mut Lines<'_>) -> Result<Certifi
 }
 
 fn read_lines(alloc: Global, lines: &mut Lines<'_>) -> Result<Certificate, TextError>
-    ensures { IsReading all_lines IsSpeakable lines.old lines.new result }
+    ensures { IsReading all_certificate_lines IsSpeakable lines.old lines.new result }
 {
     let mut numbers = Vec::new(alloc);
     word_line(lines, b"certificate 1", &mut numbers)?;
@@ -57,7 +57,7 @@ fn read_lines(alloc: Global, lines: &mut Lines<'_>) -> Result<Certificate, TextE
 
 /// Reads the text of a certificate, or says which line of it is the first wrong one.
 pub fn read_certificate(alloc: Global, bytes: &[u8]) -> Result<Certificate, TextError>
-    ensures { IsText all_lines IsSpeakable bytes.now result }
+    ensures { IsText all_certificate_lines IsSpeakable bytes.now result }
 {
     let mut lines = Lines::new(bytes);
     let certificate = read_lines(alloc, &mut lines)?;

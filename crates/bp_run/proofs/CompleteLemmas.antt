@@ -10,7 +10,7 @@ use Rattle.bp_cert.specs.declared.verdict.Verdict.{Verdict}
 use Rattle.bp_cert.specs.declared.verdict.Verdict.TheVariants.{WrongLength, PriceTooGreat, AboveForecast, Overfull, Gap, Misvalued, Optimal}
 use Rattle.bp_cert.specs.Reading.{IsText}
 use Rattle.bp_cert.specs.Laws.{IsReadOneWay}
-use Rattle.bp_cert.specs.Texts.{problem_lines, certificate_lines, IsProblem, IsSpeakable}
+use Rattle.bp_cert.specs.Texts.{problem_lines, all_certificate_lines, IsProblem, IsSpeakable}
 use Rattle.bp_run.specs.Words.{Word}
 use Rattle.bp_run.specs.Files.{Kind, problem, certificate, NamedFile, IsAccepted, IsRefused, IsGoodText, IsGood, HasCause, files}
 use Rattle.bp_run.specs.Fetches.{Fetches, ComesAt, IsRefusedFor}
@@ -24,7 +24,7 @@ use Rattle.bp_run.specs.declared.end.End.TheVariants.{NotPlain, Fault, Refused, 
 -- both kinds of text are read in one way
 pub record AreReadOneWay : Type 0 where
   pub problems : IsReadOneWay problem_lines IsProblem
-  pub certificates : IsReadOneWay certificate_lines IsSpeakable
+  pub certificates : IsReadOneWay all_certificate_lines IsSpeakable
 
 -- an answer is no refusal but Memory, where both say the same of the bytes
 one_answer : {V : Type 0} (Says : Result V TextError → Type 0) (v : V) (error : TextError) → (error ≡ NoMemory → ⊥)
@@ -36,7 +36,7 @@ accepted_not_refused : AreReadOneWay → (kind : Kind) (bytes : List ℕ) (error
 accepted_not_refused law problem bytes error other (p, accepted) refused =
     one_answer (IsText problem_lines IsProblem bytes) p error other (law.problems bytes) accepted refused
 accepted_not_refused law certificate bytes error other (c, accepted) refused =
-    one_answer (IsText certificate_lines IsSpeakable bytes) c error other (law.certificates bytes) accepted refused
+    one_answer (IsText all_certificate_lines IsSpeakable bytes) c error other (law.certificates bytes) accepted refused
 
 good_has_no_cause : AreReadOneWay → (kind : Kind) (bytes : List ℕ) (cause : Cause) → IsGoodText kind bytes → HasCause kind bytes cause → ⊥
 good_has_no_cause law kind bytes TooLong good long = omega (arith, good.short, long)

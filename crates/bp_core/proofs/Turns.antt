@@ -3,13 +3,13 @@ use Rattle.std.proofs.Common.{◌≡◌, refl, ap, sym, subst, ◌∙◌, List, 
 use Rattle.bp_types.specs.declared.change.Change.{Change}
 use Rattle.bp_types.specs.Program.{Program}
 use Rattle.bp_types.specs.Changes.{changed, Fits}
-use Rattle.bp_core.specs.Leading.{changed_by, FitInTurn, Leads}
+use Rattle.bp_core.specs.Leading.{changed_by_all, FitInTurn, Leads}
 
-changed_by-append : (p : Program) (xs ys : List Change) → changed_by p (xs ++ ys) ≡ changed_by (changed_by p xs) ys
-changed_by-append p [] ys = refl
-changed_by-append p (x ∷ xs) ys = changed_by-append (changed p x) xs ys
+changed_by_all-append : (p : Program) (xs ys : List Change) → changed_by_all p (xs ++ ys) ≡ changed_by_all (changed_by_all p xs) ys
+changed_by_all-append p [] ys = refl
+changed_by_all-append p (x ∷ xs) ys = changed_by_all-append (changed p x) xs ys
 
-fit-append : (p : Program) (xs ys : List Change) → FitInTurn p xs → FitInTurn (changed_by p xs) ys → FitInTurn p (xs ++ ys)
+fit-append : (p : Program) (xs ys : List Change) → FitInTurn p xs → FitInTurn (changed_by_all p xs) ys → FitInTurn p (xs ++ ys)
 fit-append p [] ys start rest = rest
 fit-append p (x ∷ xs) ys start rest = (start.0, fit-append (changed p x) xs ys start.1 rest)
 
@@ -18,7 +18,7 @@ leads-append p q r xs ys start rest =
     let P : Program → Type 0 = λ s. FitInTurn s ys in
     record {
       fits = fit-append p xs ys start.fits (subst P (sym start.gives) rest.fits);
-      gives = changed_by-append p xs ys ∙ ap (λ s. changed_by s ys) start.gives ∙ rest.gives;
+      gives = changed_by_all-append p xs ys ∙ ap (λ s. changed_by_all s ys) start.gives ∙ rest.gives;
     }
 
 pub leads_none : (p q : Program) → p ≡ q → Leads p [] q

@@ -39,6 +39,8 @@ bidprice portfolio LIST [--workers W]
 
 const CHECK: [&str; 3] = ["check", "A", "C"];
 
+const SOLVE: [&str; 2] = ["solve", "A"];
+
 // The texts and the tables by functions, so that no goal of a test repeats their bytes.
 fn problem() -> &'static [u8] {
     PROBLEM.as_bytes()
@@ -50,6 +52,10 @@ fn certificate() -> &'static [u8] {
 
 fn check() -> &'static [&'static str] {
     &CHECK
+}
+
+fn solve() -> &'static [&'static str] {
+    &SOLVE
 }
 
 fn usage() -> &'static str {
@@ -233,6 +239,8 @@ fn faults() -> &'static [(&'static [&'static str], u64, &'static str)] {
         (&CHECK, 2, "fault 2\n"),
         (&["check", "B", "C"], 9, "fault 1\n"),
         (&["check", "A", "B"], 9, "fault 2\n"),
+        (&SOLVE, 1, "fault 1\n"),
+        (&["group", "B", "0", "1", "1"], 9, "fault 1\n"),
     ]
 }
 
@@ -268,6 +276,17 @@ fn not_plain() -> &'static [&'static [&'static str]] {
         &["Check", "A", "C"],
         &["A", "C"],
         &["--help"],
+        &["solve"],
+        &["solve", "-A"],
+        &["solve", "A", "C"],
+        &["group", "A", "1", "3"],
+        &["group", "-A", "1", "3", "1"],
+        &["group", "A", "", "3", "1"],
+        &["group", "A", "+1", "3", "1"],
+        &["group", "A", "1", "1234567890", "1"],
+        &["group", "A", "1", "3", "1 "],
+        &["group", "A", "1", "3", "0"],
+        &["group", "A", "1", "3", "10001"],
         &["desk", "H", "S", "F", "B", "X", "--workers=2"],
         &["desk", "A", "C"],
         &["scenarios", "A"],
@@ -281,6 +300,116 @@ fn words_that_are_not_plain(rt: HostRuntime) -> Result<(), Fail> {
     for line in not_plain() {
         let mut files = shelf(alloc, problem(), certificate(), &[])?;
         assert!(rt; gives(&rt, alloc, line, &mut files, 2, usage())?);
+    }
+    Ok(())
+}
+
+// The problem and its certificate.
+fn optima() -> &'static [(&'static str, &'static str)] {
+    &[
+        (PROBLEM, CERTIFICATE),
+        (
+            "problem 1\nnights 1\nrooms 0\nstays 1\nstay 0 1 100 1\nend\n",
+            "certificate 1\nvalue 0\nsell 0\nprices 100\nend\n",
+        ),
+        (
+            "problem 1\nnights 3\nrooms 1 1 1\nstays 0\nend\n",
+            "certificate 1\nvalue 0\nsell\nprices 0 0 0\nend\n",
+        ),
+        (
+            "problem 1\nnights 2\nrooms 1 1\nstays 1\nstay 0 2 90 2\nend\n",
+            "certificate 1\nvalue 90\nsell 1\nprices 90 0\nend\n",
+        ),
+    ]
+}
+
+#[test]
+fn each_problem_has_its_least_prices(rt: HostRuntime) -> Result<(), Fail> {
+    let alloc = rt.alloc();
+    for (problem, optimum) in optima() {
+        let mut files = shelf(alloc, problem.as_bytes(), certificate(), &[])?;
+        assert!(rt;
+            gives(&rt, alloc, solve(), &mut files, 0, optimum)?,
+            "{optimum}"
+        );
+    }
+    Ok(())
+}
+
+// The text with a word behind it, again and again, and then its end.
+fn filled(
+    alloc: Global,
+    front: &str,
+    word: &str,
+    times: u64,
+    end: &str,
+) -> Result<String, AllocError> {
+    let mut text = String::from_str(alloc, front)?;
+    for _ in 0..times {
+        text.push_str(word)?;
+    }
+    text.push_str(end)?;
+    Ok(text)
+}
+
+#[test]
+fn the_longest_and_dearest_stay(rt: HostRuntime) -> Result<(), Fail> {
+    let alloc = rt.alloc();
+    let front = "problem 1\nnights 400\nrooms";
+    let stay = "\nstays 1\nstay 0 400 1000000000 1000000\nend\n";
+    let problem = filled(alloc, front, " 10000", 400, stay)?;
+    let front = "certificate 1\nvalue 10000000000000\nsell 10000\nprices 1000000000";
+    let optimum = filled(alloc, front, " 0", 399, "\nend\n")?;
+    let mut files = shelf(alloc, problem.as_bytes(), certificate(), &[])?;
+    assert!(rt; gives(&rt, alloc, solve(), &mut files, 0, &optimum)?);
+    Ok(())
+}
+
+// The nights and rooms of a group on the three nights, the status, the first line, and the certificate behind it
+// after that of all rooms.
+fn groups() -> &'static [([&'static str; 3], u8, &'static str, &'static str)] {
+    &[
+        (
+            ["1", "3", "1"],
+            0,
+            "displacement 150\n",
+            "certificate 1\nvalue 100\nsell 0 0 1 1\nprices 0 110 40\nend\n",
+        ),
+        (
+            ["0", "2", "1"],
+            0,
+            "displacement 110\n",
+            "certificate 1\nvalue 140\nsell 0 0 1 2\nprices 0 110 40\nend\n",
+        ),
+        (
+            ["0", "1", "1"],
+            0,
+            "displacement 0\n",
+            "certificate 1\nvalue 250\nsell 0 1 1 1\nprices 60 40 40\nend\n",
+        ),
+        (["1", "2", "2"], 3, "noroom 1\n", ""),
+        (["0", "000000003", "10000"], 3, "noroom 0\n", ""),
+        (["2", "4", "1"], 3, "refused span\n", ""),
+        (["2", "2", "1"], 3, "refused span\n", ""),
+        (["999999999", "0", "1"], 3, "refused span\n", ""),
+    ]
+}
+
+#[test]
+fn each_group_has_its_displacement_or_its_refusal(rt: HostRuntime) -> Result<(), Fail> {
+    let alloc = rt.alloc();
+    for ([from, to, rooms], status, first, after) in groups() {
+        let mut text = String::from_str(alloc, first)?;
+        if *status == 0 {
+            text.push_str(CERTIFICATE)?;
+            text.push_str(after)?;
+        }
+        let line = ["group", "A", from, to, rooms];
+        let mut files = shelf(alloc, problem(), certificate(), &[])?;
+        assert!(rt;
+            gives(&rt, alloc, &line, &mut files, *status, &text)?,
+            "{text}"
+        );
     }
     Ok(())
 }

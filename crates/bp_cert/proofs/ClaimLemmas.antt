@@ -11,6 +11,7 @@ use Rattle.bp_cert.specs.Reading.{Begins, GivesLines, IsReading}
 use Rattle.bp_cert.specs.Texts.{claim_lines, all_certificate_lines, IsSpeakable}
 use Rattle.bp_cert.proofs.LineLemmas.{line_injective}
 use Rattle.bp_cert.proofs.NextLemmas.{only_number}
+use Rattle.bp_cert.proofs.EndLemmas.{line_in_front, claim_no_ends, certificate_no_ends, first_line_of_certificate}
 use Rattle.bp_cert.proofs.StageLemmas.{IsStage, more_lines}
 
 heads : (a b : Line) (xs ys : List Line) → a ∷ xs ≡ b ∷ ys → a ≡ b
@@ -42,6 +43,7 @@ pub stage_value : IsStage claim_lines IsSpeakable [] (codes "value") (λ ns. len
 stage_value =
     let c : Claim = record { value = 0; sell = []; prices = [] } in
     record {
+      no_ends = claim_no_ends;
       begins = (c, value_line 0, sell_line [] ∷ prices_line [] ∷ [], speakable 0 [] [] (omega arith) (none_within 4000) (none_within 400), refl);
       form = λ v line more e. (v.value ∷ [], refl, sym (heads (value_line v.value) line (sell_line v.sell ∷ prices_line v.prices ∷ []) more e));
       some = λ ns one.
@@ -62,6 +64,7 @@ stage_sell value small =
     let c : Claim = record { value = value; sell = []; prices = [] } in
     let behind : (v : Claim) (rest : List Line) → claim_lines v ≡ value_line value ∷ rest → sell_line v.sell ∷ prices_line v.prices ∷ [] ≡ rest = λ v rest e. tails (value_line v.value) (value_line value) (sell_line v.sell ∷ prices_line v.prices ∷ []) rest e in
     record {
+      no_ends = claim_no_ends;
       begins = (c, sell_line [], prices_line [] ∷ [], speakable value [] [] small (none_within 4000) (none_within 400), refl);
       form = λ v line more e. (v.sell, tt, sym (heads (sell_line v.sell) line (prices_line v.prices ∷ []) more (behind v (line ∷ more) e)));
       some = λ ns any. (record { value = value; sell = ns; prices = [] }, prices_line [] ∷ [], refl);
@@ -78,6 +81,7 @@ stage_prices value sell small sales =
     let behind : (v : Claim) (rest : List Line) → claim_lines v ≡ value_line value ∷ sell_line sell ∷ rest → prices_line v.prices ∷ [] ≡ rest =
     λ v rest e. tails (sell_line v.sell) (sell_line sell) (prices_line v.prices ∷ []) rest (tails (value_line v.value) (value_line value) (sell_line v.sell ∷ prices_line v.prices ∷ []) (sell_line sell ∷ rest) e) in
     record {
+      no_ends = claim_no_ends;
       begins = (c, prices_line [], [], speakable value sell [] small sales (none_within 400), refl);
       form = λ v line more e. (v.prices, tt, sym (heads (prices_line v.prices) line [] more (behind v (line ∷ more) e)));
       some = λ ns any. (record { value = value; sell = sell; prices = ns }, [], refl);
@@ -141,7 +145,7 @@ refused_claim start old new TooShort before r = record {
   no_end = r.no_end;
 }
 refused_claim start old new (Trailing place) before r = absurd r
-refused_claim start old new Memory before r = (first_line ∷ r.0, more_lines start old new (first_line ∷ []) r.0 before r.1)
+refused_claim start old new Memory before r = (first_line ∷ r.0, line_in_front first_line r.0 first_line_of_certificate r.1, more_lines start old new (first_line ∷ []) r.0 before r.2)
 
 word_alone : (word : List ℕ) → line_of word [] ≡ word
 word_alone word = append-nil word
@@ -154,6 +158,7 @@ pub stage_first : IsStage all_certificate_lines IsSpeakable [] first_line (λ ns
 stage_first =
     let c : Claim = record { value = 0; sell = []; prices = [] } in
     record {
+      no_ends = certificate_no_ends;
       begins = (c, first_line, claim_lines c ++ last_line ∷ [], speakable 0 [] [] (omega arith) (none_within 4000) (none_within 400), refl);
       form = λ v line more e. ([], refl, sym (heads first_line line (claim_lines v ++ last_line ∷ []) more e) ∙ sym (word_alone first_line));
       some = λ ns none. (c, claim_lines c ++ last_line ∷ [], ap (λ l. l ∷ (claim_lines c ++ last_line ∷ [])) (sym (ap (line_of first_line) (no_numbers ns none) ∙ word_alone first_line)));
@@ -162,6 +167,7 @@ stage_first =
 
 pub stage_end : (c : Claim) → IsSpeakable c → IsStage all_certificate_lines IsSpeakable (first_line ∷ claim_lines c) last_line (λ ns. length ns ≡ 0) (λ _. Unit {0})
 stage_end c within = record {
+  no_ends = certificate_no_ends;
   begins = (c, last_line, [], within, refl);
   form = λ v line more e.
       let t = tails first_line first_line (claim_lines v ++ last_line ∷ []) (claim_lines c ++ line ∷ more) e in

@@ -19,15 +19,20 @@ fn stay(row: Row) -> Stay {
     }
 }
 
+fn stays(alloc: Global, rows: &[Row]) -> Result<Vec<Stay>, Memory> {
+    let mut stays = Vec::new(alloc);
+    for row in rows {
+        stays.push(stay(*row))?;
+    }
+    Ok(stays)
+}
+
 fn instance(
     alloc: Global,
     rooms: &[u64],
     rows: &[Row],
 ) -> Result<Result<Instance, InstanceError>, Memory> {
-    let mut stays = Vec::new(alloc);
-    for row in rows {
-        stays.push(stay(*row))?;
-    }
+    let stays = stays(alloc, rows)?;
     Ok(Instance::new(Vec::from_slice(alloc, rooms)?, stays))
 }
 
@@ -133,6 +138,98 @@ fn there_are_400_nights_and_4000_stays_at_most(rt: HostRuntime) -> Result<(), Fa
     assert!(rt; refused(alloc, &[1; 400], &[WITHIN; 4000])?.is_none());
     assert!(rt; refused(alloc, &[1; 401], &[])? == Some(InstanceError::TooManyNights));
     assert!(rt; refused(alloc, &[1, 1], &[WITHIN; 4001])? == Some(InstanceError::TooManyStays));
+    Ok(())
+}
+
+// Changes to wait for, entries, publications and unit.
+type Bounds = (u64, u64, u64, u64);
+
+const LEAST: Bounds = (1, 1, 1, 1);
+
+const MOST: Bounds = (100_000, 200_000, 1_000, 100);
+
+const NO_BOUNDS: Bounds = (0, 0, 0, 0);
+
+fn house(
+    alloc: Global,
+    rooms: &[u64],
+    sold: &[u64],
+    rows: &[Row],
+    bounds: Bounds,
+) -> Result<Result<House, HouseError>, Memory> {
+    let limits = Limits {
+        stale_after: bounds.0,
+        entries: bounds.1,
+        publications: bounds.2,
+        unit: bounds.3,
+    };
+    let stays = stays(alloc, rows)?;
+    let rooms = Vec::from_slice(alloc, rooms)?;
+    Ok(House::new(rooms, Vec::from_slice(alloc, sold)?, stays, limits))
+}
+
+// Rooms and rooms sold of houses whose bounds are broken too.
+const ROOMS_SOLD: [(&[u64], &[u64], HouseError); 7] = [
+    (&[], &[1], HouseError::Instance(InstanceError::NoNights)),
+    (
+        &[1, 10_001, 10_001],
+        &[],
+        HouseError::Instance(InstanceError::Rooms { night: 1 }),
+    ),
+    (&[10_000, 1], &[10_001], HouseError::SoldLength),
+    (&[10_000, 1], &[0, 0, 0], HouseError::SoldLength),
+    (&[2, 1, 1], &[2, 2, 3], HouseError::Sold { night: 1 }),
+    (&[2, 1, 0], &[2, 1, 1], HouseError::Sold { night: 2 }),
+    (&[10_000, 0], &[10_000, 0], HouseError::StaleAfter),
+];
+
+const BOUNDS: [(Bounds, Option<HouseError>); 13] = [
+    (LEAST, None),
+    (MOST, None),
+    (NO_BOUNDS, Some(HouseError::StaleAfter)),
+    ((100_001, 0, 0, 0), Some(HouseError::StaleAfter)),
+    ((1, 0, 0, 0), Some(HouseError::Entries)),
+    ((1, 200_001, 0, 0), Some(HouseError::Entries)),
+    ((1, 1, 0, 0), Some(HouseError::Publications)),
+    ((1, 1, 1_001, 0), Some(HouseError::Publications)),
+    ((1, 1, 1, 0), Some(HouseError::Unit)),
+    ((1, 1, 1, 2), Some(HouseError::Unit)),
+    ((1, 1, 1, 10), Some(HouseError::Unit)),
+    ((1, 1, 1, 99), Some(HouseError::Unit)),
+    ((1, 1, 1, 101), Some(HouseError::Unit)),
+];
+
+#[test]
+fn each_limit_of_a_house_is_refused_in_its_order(rt: HostRuntime) -> Result<(), Fail> {
+    let alloc = rt.alloc();
+    let past = house(alloc, &[1], &[2, 2], &[(0, 2, 1, 0)], NO_BOUNDS)?.err();
+    let want = InstanceError::SpanOut { stay: 0 };
+    assert!(rt; past == Some(HouseError::Instance(want)));
+    for (rooms, sold, want) in &ROOMS_SOLD {
+        let got = house(alloc, rooms, sold, &[], NO_BOUNDS)?.err();
+        assert!(rt; got == Some(*want), "{want}");
+    }
+    for (bounds, want) in &BOUNDS {
+        let got = house(alloc, &[1], &[1], &[], *bounds)?.err();
+        assert!(rt; got == *want, "{bounds:?}");
+    }
+    Ok(())
+}
+
+#[test]
+fn a_house_opens_in_hundredths_with_the_rooms_left(rt: HostRuntime) -> Result<(), Fail> {
+    let alloc = rt.alloc();
+    let house = house(alloc, &ROOMS, &[1, 1, 0], &STAYS, MOST)??;
+    let instance = house.instance(alloc)?;
+    assert!(rt; instance.nights() == 3);
+    assert!(rt; instance.stays() == 4);
+    assert_eq!(rt; instance.rooms(0), 100);
+    assert_eq!(rt; instance.rooms(1), 0);
+    assert_eq!(rt; instance.rooms(2), 200);
+    assert!(rt; instance.stay(0) == stay(STAYS[0]));
+    assert!(rt; instance.stay(1) == stay(STAYS[1]));
+    assert!(rt; instance.stay(2) == stay(STAYS[2]));
+    assert!(rt; instance.stay(3) == stay(STAYS[3]));
     Ok(())
 }
 

@@ -7,5 +7,7 @@
 
 pub mod law;
 mod restart;
+#[cfg(test)]
+mod tests;
 
 pub use restart::catch_up;

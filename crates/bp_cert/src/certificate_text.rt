@@ -1,4 +1,4 @@
-ghost use Rattle.std.specs.Prelude.{◌+◌, ◌≤◌, IsErrOf};
+ghost use Rattle.std.specs.Prelude.{◌≡◌, ◌+◌, ◌≤◌, IfOk, IsErrOf};
 ghost use Rattle.bp_edges.specs.Counts.{Rose};
 ghost use Rattle.bp_edges.specs.Writing.{Writes};
 ghost use Rattle.bp_cert.specs.Reading.{IsReading, IsText};
@@ -12,7 +12,7 @@ use crate::lines::spell::push_line;
 use crate::lines::write::{push_claim, write_text};
 use bp_edges::{Sink, WriteError};
 use bp_types::Certificate;
-use std::alloc::Global;
+use std::alloc::{AllocError, Global};
 
 const MOST_VALUE: u128 = 1_000_000_000_000_000_000_000_000_000_000;
 
@@ -65,6 +65,20 @@ pub fn read_certificate(alloc: Global, bytes: &[u8]) -> Result<Certificate, Text
     Ok(certificate)
 }
 
+/// The text of a certificate.
+pub fn text_of_certificate(
+    alloc: Global,
+    certificate: &Certificate,
+) -> Result<Vec<u8>, AllocError>
+    ensures { IfOk result (λ text. text.items ≡ certificate_text certificate.now) }
+{
+    let mut text = Vec::new(alloc);
+    push_line(&mut text, b"certificate 1", &[])?;
+    push_claim(&mut text, certificate)?;
+    push_line(&mut text, b"end", &[])?;
+    Ok(text)
+}
+
 /// Writes the text of a certificate.
 pub fn write_certificate<K: Sink>(
     alloc: Global,
@@ -77,9 +91,6 @@ pub fn write_certificate<K: Sink>(
     ensures steady { K.steady out.old → K.steady out.new }
     ensures faults { K.faults out.old ≤ K.faults out.new }
 {
-    let mut text = Vec::new(alloc);
-    push_line(&mut text, b"certificate 1", &[])?;
-    push_claim(&mut text, certificate)?;
-    push_line(&mut text, b"end", &[])?;
+    let text = text_of_certificate(alloc, certificate)?;
     write_text(alloc, &text, out)
 }

@@ -8,7 +8,7 @@ use Rattle.bp_cert.specs.declared.text_error.TextError.{TextError}
 use Rattle.bp_cert.specs.declared.text_error.TextError.TheVariants.{BadLine as BadForm, Limit as OutOfLimit, TooShort as EndsEarly, Trailing as GoesOn}
 use Rattle.bp_cert.specs.Reading.{IsText}
 use Rattle.bp_cert.specs.Texts.{problem_lines, all_certificate_lines, IsProblem, IsSpeakable}
-use Rattle.bp_run.specs.Words.{Word, Task, check}
+use Rattle.bp_run.specs.Words.{Word, Task, check, solve, group}
 use Rattle.bp_run.specs.declared.end.Cause.{Cause}
 use Rattle.bp_run.specs.declared.end.Cause.TheVariants.{TooLong, BadLine, Limit, TooShort, Trailing}
 
@@ -25,6 +25,8 @@ pub record NamedFile : Type 0 where
 -- the files of a task, in their order
 abbrev pub files : Task → List NamedFile
 files (check p c) = record { kind = problem; name = p } ∷ record { kind = certificate; name = c } ∷ []
+files (solve p) = record { kind = problem; name = p } ∷ []
+files (group p from to rooms) = record { kind = problem; name = p } ∷ []
 
 -- how many bytes a file may have: 16 MiB
 abbrev pub most_bytes : Kind → ℕ

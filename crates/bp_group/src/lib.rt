@@ -1,0 +1,16 @@
+//! What a group costs a hotel: the displacement of its rooms, with a certificate of both optima.
+//!
+//! A group takes the same number of rooms on each night of a span. It is worth having where it pays at least
+//! what the optimum of the instance loses by it. That loss is not its rooms at their bid prices: the prices
+//! hold for one room more or less, and rise as rooms are taken.
+#![tactic(auto)]
+
+mod error;
+mod group_quote;
+pub mod law;
+mod quoting;
+mod rooms;
+
+pub use error::QuoteError;
+pub use group_quote::GroupQuote;
+pub use quoting::quote;

@@ -8,9 +8,10 @@ use Rattle.bp_cert.specs.declared.text_error.TextError.TheVariants.{BadLine, Lim
 use Rattle.bp_cert.specs.Lines.{Line, Given, line_of}
 use Rattle.bp_cert.specs.Forms.{AreWithin}
 use Rattle.bp_cert.specs.Reading.{Begins, GivesLines, IsReading}
-use Rattle.bp_cert.specs.Texts.{claim_lines, certificate_lines, IsSpeakable}
+use Rattle.bp_cert.specs.Texts.{claim_lines, all_certificate_lines, IsSpeakable}
 use Rattle.bp_cert.proofs.LineLemmas.{line_injective}
 use Rattle.bp_cert.proofs.NextLemmas.{only_number}
+use Rattle.bp_cert.proofs.EndLemmas.{line_in_front, claim_no_ends, certificate_no_ends, first_line_of_certificate}
 use Rattle.bp_cert.proofs.StageLemmas.{IsStage, more_lines}
 
 heads : (a b : Line) (xs ys : List Line) → a ∷ xs ≡ b ∷ ys → a ≡ b
@@ -42,6 +43,7 @@ pub stage_value : IsStage claim_lines IsSpeakable [] (codes "value") (λ ns. len
 stage_value =
     let c : Claim = record { value = 0; sell = []; prices = [] } in
     record {
+      no_ends = claim_no_ends;
       begins = (c, value_line 0, sell_line [] ∷ prices_line [] ∷ [], speakable 0 [] [] (omega arith) (none_within 4000) (none_within 400), refl);
       form = λ v line more e. (v.value ∷ [], refl, sym (heads (value_line v.value) line (sell_line v.sell ∷ prices_line v.prices ∷ []) more e));
       some = λ ns one.
@@ -62,6 +64,7 @@ stage_sell value small =
     let c : Claim = record { value = value; sell = []; prices = [] } in
     let behind : (v : Claim) (rest : List Line) → claim_lines v ≡ value_line value ∷ rest → sell_line v.sell ∷ prices_line v.prices ∷ [] ≡ rest = λ v rest e. tails (value_line v.value) (value_line value) (sell_line v.sell ∷ prices_line v.prices ∷ []) rest e in
     record {
+      no_ends = claim_no_ends;
       begins = (c, sell_line [], prices_line [] ∷ [], speakable value [] [] small (none_within 4000) (none_within 400), refl);
       form = λ v line more e. (v.sell, tt, sym (heads (sell_line v.sell) line (prices_line v.prices ∷ []) more (behind v (line ∷ more) e)));
       some = λ ns any. (record { value = value; sell = ns; prices = [] }, prices_line [] ∷ [], refl);
@@ -78,6 +81,7 @@ stage_prices value sell small sales =
     let behind : (v : Claim) (rest : List Line) → claim_lines v ≡ value_line value ∷ sell_line sell ∷ rest → prices_line v.prices ∷ [] ≡ rest =
     λ v rest e. tails (sell_line v.sell) (sell_line sell) (prices_line v.prices ∷ []) rest (tails (value_line v.value) (value_line value) (sell_line v.sell ∷ prices_line v.prices ∷ []) (sell_line sell ∷ rest) e) in
     record {
+      no_ends = claim_no_ends;
       begins = (c, prices_line [], [], speakable value sell [] small sales (none_within 400), refl);
       form = λ v line more e. (v.prices, tt, sym (heads (prices_line v.prices) line [] more (behind v (line ∷ more) e)));
       some = λ ns any. (record { value = value; sell = sell; prices = ns }, [], refl);
@@ -101,20 +105,20 @@ first_line = codes "certificate 1"
 abbrev last_line : Line
 last_line = codes "end"
 
-wrapped : (v : Claim) (front : List Line) (line : Line) (more : List Line) → claim_lines v ≡ front ++ line ∷ more → certificate_lines v ≡ (first_line ∷ front) ++ line ∷ (more ++ last_line ∷ [])
+wrapped : (v : Claim) (front : List Line) (line : Line) (more : List Line) → claim_lines v ≡ front ++ line ∷ more → all_certificate_lines v ≡ (first_line ∷ front) ++ line ∷ (more ++ last_line ∷ [])
 wrapped v front line more e = ap (λ ls. first_line ∷ (ls ++ last_line ∷ [])) e ∙ ap (λ ls. first_line ∷ ls) (append_assoc front (line ∷ more) (last_line ∷ []))
 
 begins_short : (front : List Line) → Begins claim_lines IsSpeakable front → length front < 3
 begins_short front b = omega (arith, ap length b.4, length-append front (b.1 ∷ b.2))
 
-unwrapped : (v : Claim) (front : List Line) (line : Line) (more : List Line) → length front < 3 → certificate_lines v ≡ (first_line ∷ front) ++ line ∷ more → (rest : List Line) × (claim_lines v ≡ front ++ line ∷ rest)
+unwrapped : (v : Claim) (front : List Line) (line : Line) (more : List Line) → length front < 3 → all_certificate_lines v ≡ (first_line ∷ front) ++ line ∷ more → (rest : List Line) × (claim_lines v ≡ front ++ line ∷ rest)
 unwrapped v front line more short e = cut_front (claim_lines v) front last_line line more (tails first_line first_line (claim_lines v ++ last_line ∷ []) (front ++ line ∷ more) e) (omega arith)
 
-begins_wrapped : (front : List Line) → Begins claim_lines IsSpeakable front → Begins certificate_lines IsSpeakable (first_line ∷ front)
+begins_wrapped : (front : List Line) → Begins claim_lines IsSpeakable front → Begins all_certificate_lines IsSpeakable (first_line ∷ front)
 begins_wrapped front b = (b.0, b.1, b.2 ++ last_line ∷ [], b.3, wrapped b.0 front b.1 b.2 b.4)
 
 -- what is refused of the claim is refused of the certificate
-pub refused_claim : (start old new : Given) (e : TextError) → GivesLines start old (first_line ∷ []) old.rest → IsReading claim_lines IsSpeakable old new (Err e) → IsReading certificate_lines IsSpeakable start new (Err e)
+pub refused_claim : (start old new : Given) (e : TextError) → GivesLines start old (first_line ∷ []) old.rest → IsReading claim_lines IsSpeakable old new (Err e) → IsReading all_certificate_lines IsSpeakable start new (Err e)
 refused_claim start old new (BadLine place) before r = record {
   front = first_line ∷ r.front;
   line = r.line;
@@ -141,7 +145,7 @@ refused_claim start old new TooShort before r = record {
   no_end = r.no_end;
 }
 refused_claim start old new (Trailing place) before r = absurd r
-refused_claim start old new Memory before r = (first_line ∷ r.0, more_lines start old new (first_line ∷ []) r.0 before r.1)
+refused_claim start old new Memory before r = (first_line ∷ r.0, line_in_front first_line r.0 first_line_of_certificate r.1, more_lines start old new (first_line ∷ []) r.0 before r.2)
 
 word_alone : (word : List ℕ) → line_of word [] ≡ word
 word_alone word = append-nil word
@@ -150,18 +154,20 @@ no_numbers : (ns : List ℕ) → length ns ≡ 0 → ns ≡ []
 no_numbers [] e = refl
 no_numbers (n ∷ ns) e = absurd (omega (arith, e))
 
-pub stage_first : IsStage certificate_lines IsSpeakable [] first_line (λ ns. length ns ≡ 0) (λ _. Unit {0})
+pub stage_first : IsStage all_certificate_lines IsSpeakable [] first_line (λ ns. length ns ≡ 0) (λ _. Unit {0})
 stage_first =
     let c : Claim = record { value = 0; sell = []; prices = [] } in
     record {
+      no_ends = certificate_no_ends;
       begins = (c, first_line, claim_lines c ++ last_line ∷ [], speakable 0 [] [] (omega arith) (none_within 4000) (none_within 400), refl);
       form = λ v line more e. ([], refl, sym (heads first_line line (claim_lines v ++ last_line ∷ []) more e) ∙ sym (word_alone first_line));
       some = λ ns none. (c, claim_lines c ++ last_line ∷ [], ap (λ l. l ∷ (claim_lines c ++ last_line ∷ [])) (sym (ap (line_of first_line) (no_numbers ns none) ∙ word_alone first_line)));
       fine = λ v ns more within none e. tt;
     }
 
-pub stage_end : (c : Claim) → IsSpeakable c → IsStage certificate_lines IsSpeakable (first_line ∷ claim_lines c) last_line (λ ns. length ns ≡ 0) (λ _. Unit {0})
+pub stage_end : (c : Claim) → IsSpeakable c → IsStage all_certificate_lines IsSpeakable (first_line ∷ claim_lines c) last_line (λ ns. length ns ≡ 0) (λ _. Unit {0})
 stage_end c within = record {
+  no_ends = certificate_no_ends;
   begins = (c, last_line, [], within, refl);
   form = λ v line more e.
       let t = tails first_line first_line (claim_lines v ++ last_line ∷ []) (claim_lines c ++ line ∷ more) e in

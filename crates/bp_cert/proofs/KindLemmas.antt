@@ -7,39 +7,11 @@ use Rattle.bp_types.specs.declared.stay.Stay.{Stay}
 use Rattle.bp_types.specs.Program.{Program}
 use Rattle.bp_types.specs.Claim.{Claim}
 use Rattle.bp_cert.specs.Lines.{Line, HasNoEnd, line_of}
-use Rattle.bp_cert.specs.Texts.{stay_line, stay_numbers, head_lines, stay_lines, problem_lines, certificate_lines}
+use Rattle.bp_cert.specs.Texts.{stay_line, stay_numbers, head_lines, stay_lines, problem_lines, all_certificate_lines}
 use Rattle.bp_cert.proofs.LineLemmas.{line_injective, no_end_in_line}
-use Rattle.bp_cert.proofs.SpellingLemmas.{IsSpelling, one_line}
+use Rattle.bp_cert.proofs.EndLemmas.{problem_no_ends, certificate_no_ends}
+use Rattle.bp_cert.proofs.SpellingLemmas.{IsSpelling}
 use Rattle.bp_cert.proofs.ProblemLemmas.{head_known}
-
--- no byte of a short word is a line's end
-word_has_no_end : (word : List ℕ) → list_all (λ b. not (b == 10)) word ≡ true → HasNoEnd word
-word_has_no_end word pass k d h e =
-    let at : not (get_or word k d == 10) ≡ true = AllPass-from_list_all (λ b. not (b == 10)) word pass k d h in
-    let other : not (get_or word k d == 10) ≡ false = ap (λ b. not (b == 10)) e in
-    absurd (cc)
-
--- one line more in front
-line_in_front : (line : Line) (lines : List Line) → HasNoEnd line → All HasNoEnd lines → All HasNoEnd (line ∷ lines)
-line_in_front line lines first others zero d h = first
-line_in_front line lines first others (suc k) d h = others k d (omega arith)
-
-spelled : (word numbers : List ℕ) → list_all (λ b. not (b == 10)) word ≡ true → HasNoEnd (line_of word numbers)
-spelled word numbers pass = no_end_in_line word numbers (word_has_no_end word pass)
-
-problem_no_ends : (v : Program) → All HasNoEnd (problem_lines v)
-problem_no_ends v =
-    let counted = line_in_front (line_of (codes "stays") (length v.stays ∷ [])) (stay_lines v.stays) (spelled (codes "stays") (length v.stays ∷ []) refl) (stays_no_ends v.stays) in
-    let stays = line_of (codes "stays") (length v.stays ∷ []) ∷ stay_lines v.stays in
-    let rooms = line_of (codes "rooms") v.rooms ∷ stays in
-    let nights = line_of (codes "nights") (length v.rooms ∷ []) ∷ rooms in
-    let behind_nights = line_in_front (line_of (codes "rooms") v.rooms) stays (spelled (codes "rooms") v.rooms refl) counted in
-    let behind_first = line_in_front (line_of (codes "nights") (length v.rooms ∷ [])) rooms (spelled (codes "nights") (length v.rooms ∷ []) refl) behind_nights in
-    line_in_front (codes "problem 1") nights (word_has_no_end (codes "problem 1") refl) behind_first
-  where
-    stays_no_ends : (stays : List Stay) → All HasNoEnd (stay_lines stays)
-    stays_no_ends [] = one_line (codes "end") (word_has_no_end (codes "end") refl)
-    stays_no_ends (s ∷ stays) = line_in_front (stay_line s) (stay_lines stays) (spelled (codes "stay") (stay_numbers s) refl) (stays_no_ends stays)
 
 stays_alone : (xs ys : List Stay) (rest : List Line) → stay_lines ys ≡ stay_lines xs ++ rest → length ys ≡ length xs → (xs ≡ ys) × (rest ≡ [])
 stays_alone [] [] rest e long = let t : [] ≡ rest = cc in (refl, sym t)
@@ -69,18 +41,7 @@ problem_alone v w rest e =
 pub problems_are_spelled : IsSpelling problem_lines
 problems_are_spelled = record { no_ends = problem_no_ends; alone = problem_alone }
 
-claim_no_ends : (c : Claim) → All HasNoEnd (certificate_lines c)
-claim_no_ends c =
-    let end = codes "end" ∷ [] in
-    let prices = line_of (codes "prices") c.prices ∷ end in
-    let sell = line_of (codes "sell") c.sell ∷ prices in
-    let value = line_of (codes "value") (c.value ∷ []) ∷ sell in
-    let behind_sell = line_in_front (line_of (codes "prices") c.prices) end (spelled (codes "prices") c.prices refl) (one_line (codes "end") (word_has_no_end (codes "end") refl)) in
-    let behind_value = line_in_front (line_of (codes "sell") c.sell) prices (spelled (codes "sell") c.sell refl) behind_sell in
-    let behind_first = line_in_front (line_of (codes "value") (c.value ∷ [])) sell (spelled (codes "value") (c.value ∷ []) refl) behind_value in
-    line_in_front (codes "certificate 1") value (word_has_no_end (codes "certificate 1") refl) behind_first
-
-claim_alone : (v w : Claim) (rest : List Line) → certificate_lines w ≡ certificate_lines v ++ rest → (v ≡ w) × (rest ≡ [])
+claim_alone : (v w : Claim) (rest : List Line) → all_certificate_lines w ≡ all_certificate_lines v ++ rest → (v ≡ w) × (rest ≡ [])
 claim_alone v w rest e =
     let values = parted (value_line w) (value_line v) _ _ (parted (codes "certificate 1") (codes "certificate 1") _ _ e).1 in
     let sales = parted (line_of (codes "sell") w.sell) (line_of (codes "sell") v.sell) _ _ values.1 in
@@ -100,5 +61,5 @@ claim_alone v w rest e =
         let built : ℕ → List ℕ → List ℕ → Claim = λ v s p. record { value = v; sell = s; prices = p } in
         ap (λ v. built v c.sell c.prices) e ∙ ap (λ s. built d.value s c.prices) f ∙ ap (built d.value d.sell) g
 
-pub certificates_are_spelled : IsSpelling certificate_lines
-certificates_are_spelled = record { no_ends = claim_no_ends; alone = claim_alone }
+pub certificates_are_spelled : IsSpelling all_certificate_lines
+certificates_are_spelled = record { no_ends = certificate_no_ends; alone = claim_alone }

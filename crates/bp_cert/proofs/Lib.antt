@@ -4,6 +4,7 @@ pub mod NumberLemmas
 pub mod LineLemmas
 pub mod FormLemmas
 pub mod NextLemmas
+pub mod EndLemmas
 pub mod StageLemmas
 pub mod ProblemLemmas
 pub mod WholeLemmas

@@ -8,7 +8,8 @@ use Rattle.bp_cert.specs.declared.text_error.TextError.TheVariants.{BadLine, Lim
 use Rattle.bp_cert.specs.Lines.{Line, Given, text_of, HasNoEnd}
 use Rattle.bp_cert.specs.Reading.{Begins, HasForm, IsRight, BreaksForm, BreaksLimit, EndsShort, IsTrailed, start_of}
 use Rattle.bp_cert.specs.Laws.{IsReadOneWay}
-use Rattle.bp_cert.proofs.SpellingLemmas.{IsSpelling, same_lines, end_stands, one_line, no_end_in_front, not_behind}
+use Rattle.bp_cert.proofs.EndLemmas.{one_line, no_end_in_front}
+use Rattle.bp_cert.proofs.SpellingLemmas.{IsSpelling, same_lines, end_stands, not_behind}
 
 -- the lines of a value stand before the rest
 record IsWhole {V : Type 0} (lines : V → List Line) (Within : V → Type 0) (bytes : List ℕ) (v : V) (rest : List ℕ) : Type 0 where
@@ -32,7 +33,7 @@ record IsShort {V : Type 0} (lines : V → List Line) (Within : V → Type 0) (b
   splits : bytes ≡ text_of front ++ rest
 
 broken_lines : {V : Type 0} (lines : V → List Line) (Within : V → Type 0) (bytes : List ℕ) (front : List Line) (line : Line) → IsSpelling lines → IsBroken lines Within bytes front line → All HasNoEnd (front ++ line ∷ [])
-broken_lines lines Within bytes front line s b = All-append HasNoEnd front (line ∷ []) (no_end_in_front lines Within front s b.begins) (one_line line b.no_end)
+broken_lines lines Within bytes front line s b = All-append HasNoEnd front (line ∷ []) (no_end_in_front lines Within front s.no_ends b.begins) (one_line line b.no_end)
 
 long : (front : List Line) (line : Line) → length (front ++ line ∷ []) ≡ length front + 1
 long front line = length-append front (line ∷ [])
@@ -55,7 +56,7 @@ both_whole lines Within bytes v w r t s a b =
 whole_broken : {V : Type 0} (lines : V → List Line) (Within : V → Type 0) (bytes : List ℕ) (v : V) (r : List ℕ) (front : List Line) (line : Line) → IsSpelling lines → IsWhole lines Within bytes v r → IsBroken lines Within bytes front line → ⊥
 whole_broken lines Within bytes v r front line s a b =
     let e : text_of (lines v) ++ r ≡ text_of (front ++ line ∷ []) ++ b.rest = sym a.splits ∙ b.splits in
-    let none = no_end_in_front lines Within front s b.begins in
+    let none = no_end_in_front lines Within front s.no_ends b.begins in
     elim (cases_lt (length front) (length (lines v))) [
       | inl inside ↦
           let more = same_lines (front ++ line ∷ []) (lines v) b.rest r (broken_lines lines Within bytes front line s b) (s.no_ends v) (sym e) (omega (arith, long front line)) in
@@ -73,7 +74,7 @@ whole_broken lines Within bytes v r front line s a b =
 whole_short : {V : Type 0} (lines : V → List Line) (Within : V → Type 0) (bytes : List ℕ) (v : V) (r : List ℕ) → IsSpelling lines → IsWhole lines Within bytes v r → IsShort lines Within bytes → ⊥
 whole_short lines Within bytes v r s a b =
     let e : text_of (lines v) ++ r ≡ text_of b.front ++ b.rest = sym a.splits ∙ b.splits in
-    let none = no_end_in_front lines Within b.front s b.begins in
+    let none = no_end_in_front lines Within b.front s.no_ends b.begins in
     elim (cases_lt (length b.front) (length (lines v))) [
       | inl inside ↦
           let more = same_lines b.front (lines v) b.rest r none (s.no_ends v) (sym e) (omega arith) in
@@ -93,7 +94,7 @@ broken_inside lines Within bytes front line other b begins more e =
 broken_short : {V : Type 0} (lines : V → List Line) (Within : V → Type 0) (bytes : List ℕ) (front : List Line) (line : Line) → IsSpelling lines → IsBroken lines Within bytes front line → IsShort lines Within bytes → ⊥
 broken_short lines Within bytes front line s b h =
     let e : text_of (front ++ line ∷ []) ++ b.rest ≡ text_of h.front ++ h.rest = sym b.splits ∙ h.splits in
-    let none = no_end_in_front lines Within h.front s h.begins in
+    let none = no_end_in_front lines Within h.front s.no_ends h.begins in
     let ours = broken_lines lines Within bytes front line s b in
     elim (cases_lt (length h.front) (length (front ++ line ∷ []))) [
       | inl inside ↦

@@ -12,6 +12,7 @@ use Rattle.bp_cert.specs.Reading.{GivesLines, Spells}
 use Rattle.bp_cert.specs.Texts.{stay_numbers, stay_line, head_lines, stay_lines, problem_lines, IsProblem, IsStayWithin, AreStaysWithin, IsHead}
 use Rattle.bp_cert.proofs.LineLemmas.{line_injective}
 use Rattle.bp_cert.proofs.NextLemmas.{only_number}
+use Rattle.bp_cert.proofs.EndLemmas.{problem_no_ends}
 use Rattle.bp_cert.proofs.StageLemmas.{IsStage, one_more_line}
 
 no_numbers : (ns : List ℕ) → length ns ≡ 0 → ns ≡ []
@@ -124,6 +125,7 @@ pub stage_first : IsStage problem_lines IsProblem [] first_line (λ ns. length n
 stage_first =
     let v : Program = record { rooms = replicate 1 0; stays = [] } in
     record {
+      no_ends = problem_no_ends;
       begins = (v, first_line, from_nights v, bare (replicate 1 0) (zero_rooms 1 (omega arith) (omega arith)), refl);
       form = λ v line more e. ([], refl, sym (heads first_line line (from_nights v) more e) ∙ sym (word_alone first_line));
       some = λ ns none. (v, from_nights v, ap (λ l. l ∷ from_nights v) (sym (ap (line_of first_line) (no_numbers ns none) ∙ word_alone first_line)));
@@ -134,6 +136,7 @@ pub stage_nights : IsStage problem_lines IsProblem (first_line ∷ []) (codes "n
 stage_nights =
     let v : Program = record { rooms = replicate 1 0; stays = [] } in
     record {
+      no_ends = problem_no_ends;
       begins = (v, nights_line 1, from_rooms v, bare (replicate 1 0) (zero_rooms 1 (omega arith) (omega arith)), refl);
       form = λ v line more e. (length v.rooms ∷ [], refl, sym (heads (nights_line (length v.rooms)) line (from_rooms v) more (tails first_line first_line (from_nights v) (line ∷ more) e)));
       some = λ ns one.
@@ -161,6 +164,7 @@ pub stage_rooms : (n : ℕ) → 1 ≤ n → n ≤ 400 → IsStage problem_lines 
 stage_rooms n positive few =
     let v : Program = record { rooms = replicate n 0; stays = [] } in
     record {
+      no_ends = problem_no_ends;
       begins = (v, rooms_line (replicate n 0), from_stays v, bare (replicate n 0) (zero_rooms n positive few), ap (λ k. first_line ∷ nights_line k ∷ from_rooms v) (length-replicate {A = ℕ} n 0));
       form = λ v line more e. let known = rooms_known v n (line ∷ more) e in (v.rooms, known.0, sym (heads (rooms_line v.rooms) line (from_stays v) more known.1));
       some = λ ns each. let w : Program = record { rooms = ns; stays = [] } in (w, from_stays w, ap (λ k. first_line ∷ nights_line k ∷ from_rooms w) each);
@@ -181,6 +185,7 @@ pub stage_count : (n : ℕ) (rooms : List ℕ) → IsHead rooms 0 → length roo
 stage_count n rooms head each =
     let v : Program = record { rooms = rooms; stays = [] } in
     record {
+      no_ends = problem_no_ends;
       begins = (v, count_line 0, stay_lines [], bare rooms head, ap (λ k. first_line ∷ nights_line k ∷ from_rooms v) each);
       form = λ v line more e. let known = stays_known v n rooms (line ∷ more) e in (length v.stays ∷ [], refl, sym (heads (count_line (length v.stays)) line (stay_lines v.stays) more known.1));
       some = λ ns one.
@@ -253,6 +258,7 @@ stage_stay rooms count done head all short =
     let left : ℕ = count - (length done + 1) in
     let whole : length done + 1 + left ≡ count = omega arith in
     record {
+      no_ends = problem_no_ends;
       begins =
           let v : Program = with_stay rooms done plain_stay left in
           let long : count ≡ length v.stays = sym (length-extended done plain_stay left ∙ whole) in
@@ -279,6 +285,7 @@ stage_end rooms stays head all =
     let v : Program = record { rooms = rooms; stays = stays } in
     let lines : problem_lines v ≡ (head_lines rooms (length stays) ++ map stay_line stays) ++ codes "end" ∷ [] = sym (append_assoc (head_lines rooms (length stays)) (map stay_line stays) (codes "end" ∷ [])) in
     record {
+      no_ends = problem_no_ends;
       begins = (v, codes "end", [], problem_within rooms stays head all, lines);
       form = λ v line more e.
           let known = head_known v rooms (length stays) (map stay_line stays ++ line ∷ more) (regrouped v rooms (length stays) stays (line ∷ more) e) in

@@ -5,6 +5,7 @@ use Rattle.std.proofs.lemmas.List.{append-nil}
 use Rattle.bp_cert.specs.Lines.{Line, text_of, HasNoEnd}
 use Rattle.bp_cert.specs.Reading.{Begins}
 use Rattle.bp_cert.specs.Laws.{HasOneSpelling, IsPrefixFree}
+use Rattle.bp_cert.proofs.EndLemmas.{all_head, all_tail}
 
 -- the lines of every value have no ends in them, and those of one do not go on behind those of another
 pub record IsSpelling {V : Type 0} (lines : V → List Line) : Type 0 where
@@ -24,12 +25,6 @@ same_line (a ∷ x) (b ∷ y) r s no_x no_y e =
     let t : x ++ 10 ∷ r ≡ y ++ 10 ∷ s = cc in
     let rest = same_line x y r s (lacks_tail a x no_x) (lacks_tail b y no_y) t in
     (ap (λ c. c ∷ x) h ∙ ap (λ cs. b ∷ cs) rest.0, rest.1)
-
-all_tail : (x : Line) (xs : List Line) → All HasNoEnd (x ∷ xs) → All HasNoEnd xs
-all_tail x xs all k d h = all (suc k) d (omega arith)
-
-all_head : (x : Line) (xs : List Line) → All HasNoEnd (x ∷ xs) → HasNoEnd x
-all_head x xs all = all 0 [] (omega arith)
 
 text_cons : (x : Line) (xs : List Line) (r : List ℕ) → text_of (x ∷ xs) ++ r ≡ x ++ 10 ∷ (text_of xs ++ r)
 text_cons x xs r = append_assoc (x ++ 10 ∷ []) (text_of xs) r ∙ append_assoc x (10 ∷ []) (text_of xs ++ r)
@@ -51,23 +46,6 @@ end_stands (x ∷ xs) s none = absurd (at_end x (text_of xs ++ s) (let P : List 
     at_end : (x : Line) (more : List ℕ) → HasNoEnd (x ++ 10 ∷ more) → ⊥
     at_end [] more none = none 0 0 (omega arith) refl
     at_end (b ∷ bs) more none = at_end bs more (lacks_tail b (bs ++ 10 ∷ more) none)
-
-all_front : (xs ys : List Line) → All HasNoEnd (xs ++ ys) → All HasNoEnd xs
-all_front [] ys all = λ k d h. absurd (omega arith)
-all_front (x ∷ xs) ys all = go (all_head x (xs ++ ys) all) (all_front xs ys (all_tail x (xs ++ ys) all))
-  where
-    go : HasNoEnd x → All HasNoEnd xs → All HasNoEnd (x ∷ xs)
-    go first rest zero d h = first
-    go first rest (suc k) d h = rest k d (omega arith)
-
-pub one_line : (line : Line) → HasNoEnd line → All HasNoEnd (line ∷ [])
-one_line line none zero d h = none
-one_line line none (suc k) d h = absurd (omega arith)
-
-pub no_end_in_front : {V : Type 0} (lines : V → List Line) (Within : V → Type 0) (front : List Line) → IsSpelling lines → Begins lines Within front → All HasNoEnd front
-no_end_in_front lines Within front s b =
-    let P : List Line → Type 0 = λ ls. All HasNoEnd ls in
-    all_front front (b.1 ∷ b.2) (subst P b.4 (s.no_ends b.0))
 
 -- lines that begin a text are not behind a whole one
 pub not_behind : {V : Type 0} (lines : V → List Line) (Within : V → Type 0) (front : List Line) → IsSpelling lines → Begins lines Within front → (v : V) (rest : List Line) → front ≡ lines v ++ rest → ⊥

@@ -1,13 +1,15 @@
 -- From one line of a text to the whole: what a line's refusal says of the text that it stands in.
-use Rattle.std.proofs.Common.{◌≡◌, ℕ, refl, ap, sym, subst, ◌∙◌, arith, List, [], ◌∷◌, ◌++◌, append_assoc, length-append}
+use Rattle.std.proofs.Common.{◌≡◌, ℕ, refl, ap, sym, subst, ◌∙◌, arith, List, [], ◌∷◌, ◌++◌, All, append_assoc, length-append}
 use Rattle.std.specs.Prelude.{Err}
 use Rattle.std.proofs.lemmas.List.{append-nil}
+use Rattle.std.proofs.lemmas.List.Elements.{All-append}
 use Rattle.std.proofs.lemmas.Grind.{flat_map-append}
 use Rattle.bp_cert.specs.declared.text_error.TextError.{TextError}
 use Rattle.bp_cert.specs.declared.text_error.TextError.TheVariants.{BadLine, Limit, TooShort, Trailing, Memory}
-use Rattle.bp_cert.specs.Lines.{Line, Given, GivesLine, line_of, text_of}
+use Rattle.bp_cert.specs.Lines.{Line, HasNoEnd, Given, GivesLine, line_of, text_of}
 use Rattle.bp_cert.specs.Forms.{IsLine}
 use Rattle.bp_cert.specs.Reading.{Begins, HasForm, GivesLines, IsReading, EndsShort}
+use Rattle.bp_cert.proofs.EndLemmas.{one_line, no_end_in_front}
 
 pub text_of-append : (xs ys : List Line) → text_of (xs ++ ys) ≡ text_of xs ++ text_of ys
 text_of-append xs ys = flat_map-append (λ line. line ++ 10 ∷ []) xs ys
@@ -37,10 +39,18 @@ more_lines old mid new front lines before gives = record {
 
 -- behind these lines a text goes on with a word and numbers in a form, and within the limits they are fine
 pub record IsStage {V : Type 0} (lines : V → List Line) (Within : V → Type 0) (front : List Line) (word : List ℕ) (Form Fine : List ℕ → Type 0) : Type 0 where
+  pub no_ends : (v : V) → All HasNoEnd (lines v)
   pub begins : Begins lines Within front
   pub form : (v : V) (line : Line) (more : List Line) → lines v ≡ front ++ line ∷ more → (ns : List ℕ) × Form ns × (line ≡ line_of word ns)
   pub some : (ns : List ℕ) → Form ns → HasForm lines front (line_of word ns)
   pub fine : (v : V) (ns : List ℕ) (more : List Line) → Within v → Form ns → lines v ≡ front ++ line_of word ns ∷ more → Fine ns
+
+-- so where memory was wanted behind the line, the lines so far were given
+pub stopped_at : {V : Type 0} (lines : V → List Line) (Within : V → Type 0) (front : List Line) (word : List ℕ) (Form Fine : List ℕ → Type 0) (old mid new : Given) (line : Line) →
+    IsStage lines Within front word Form Fine → GivesLines old mid front mid.rest → GivesLine mid new line → IsReading lines Within old new (Err Memory)
+stopped_at lines Within front word Form Fine old mid new line stage before gives =
+    let none = no_end_in_front lines Within front stage.no_ends stage.begins in
+    (front ++ line ∷ [], All-append HasNoEnd front (line ∷ []) none (one_line line gives.no_end), one_more_line old mid new front line before gives)
 
 -- so a refusal of the line is one of the text
 pub refused_at : {V : Type 0} (lines : V → List Line) (Within : V → Type 0) (front : List Line) (word : List ℕ) (Form Fine : List ℕ → Type 0) (old mid new : Given) (e : TextError) →
@@ -68,4 +78,4 @@ refused_at lines Within front word Form Fine old mid new TooShort stage before s
     let P : Given → Type 0 = λ g. EndsShort lines Within old g in
     subst P (sym short.0) (record { front = front; begins = stage.begins; gives = before; no_end = short.1 })
 refused_at lines Within front word Form Fine old mid new (Trailing place) stage before never = never
-refused_at lines Within front word Form Fine old mid new Memory stage before stopped = (front ++ stopped.0 ∷ [], one_more_line old mid new front stopped.0 before stopped.1)
+refused_at lines Within front word Form Fine old mid new Memory stage before stopped = stopped_at lines Within front word Form Fine old mid new stopped.0 stage before stopped.1

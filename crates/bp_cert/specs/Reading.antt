@@ -3,7 +3,7 @@
 -- A kind of text is given by the lines that spell a value, and by the limits that the value has to keep. Nothing else
 -- is said of it: which lines may stand in a place, and which of them keep to the limits, follows from the texts of all
 -- values.
-use Rattle.std.specs.Prelude.{◌≡◌, ℕ, ◌+◌, List, [], ◌∷◌, ◌++◌, length, Result, Ok, Err}
+use Rattle.std.specs.Prelude.{◌≡◌, ℕ, ◌+◌, List, [], ◌∷◌, ◌++◌, length, All, Result, Ok, Err}
 use Rattle.bp_cert.specs.declared.text_error.TextError.{TextError}
 use Rattle.bp_cert.specs.declared.text_error.TextError.TheVariants.{BadLine, Limit, TooShort, Trailing, Memory}
 use Rattle.bp_cert.specs.Lines.{Line, text_of, HasNoEnd, Given}
@@ -71,7 +71,7 @@ IsReading lines Within old new (Err (BadLine place)) = BreaksForm lines Within o
 IsReading lines Within old new (Err (Limit place)) = BreaksLimit lines Within old new place
 IsReading lines Within old new (Err TooShort) = EndsShort lines Within old new
 IsReading lines Within old new (Err (Trailing place)) = ⊥
-IsReading lines Within old new (Err Memory) = (front : List Line) × GivesLines old new front new.rest
+IsReading lines Within old new (Err Memory) = (front : List Line) × All HasNoEnd front × GivesLines old new front new.rest
 
 -- before the first line
 abbrev pub start_of : List ℕ → Given

@@ -39,8 +39,8 @@ claim_lines c =
     line_of (codes "value") (c.value ∷ []) ∷ line_of (codes "sell") c.sell ∷ line_of (codes "prices") c.prices ∷ []
 
 -- the lines of a certificate
-abbrev pub certificate_lines : Claim → List Line
-certificate_lines c = codes "certificate 1" ∷ (claim_lines c ++ codes "end" ∷ [])
+abbrev pub all_certificate_lines : Claim → List Line
+all_certificate_lines c = codes "certificate 1" ∷ (claim_lines c ++ codes "end" ∷ [])
 
 -- a number that fits a machine word
 abbrev pub IsWord : ℕ → Type 0
@@ -58,7 +58,7 @@ abbrev pub problem_text : Program → List ℕ
 problem_text p = text_of (problem_lines p)
 
 abbrev pub certificate_text : Claim → List ℕ
-certificate_text c = text_of (certificate_lines c)
+certificate_text c = text_of (all_certificate_lines c)
 
 -- the numbers of a line are those of a stay within so many nights and within the limits
 pub record IsStayWithin (nights : ℕ) (numbers : List ℕ) : Type 0 where

@@ -1,8 +1,8 @@
-ghost use Rattle.std.specs.Prelude.{◌+◌, ◌≤◌, IsErrOf};
+ghost use Rattle.std.specs.Prelude.{◌≡◌, ◌+◌, ◌≤◌, IfOk, IsErrOf};
 ghost use Rattle.bp_edges.specs.Counts.{Rose};
 ghost use Rattle.bp_edges.specs.Writing.{Writes};
 ghost use Rattle.bp_cert.specs.Reading.{IsReading, IsText};
-ghost use Rattle.bp_cert.specs.Texts.{claim_lines, certificate_lines as all_lines, certificate_text, IsSpeakable};
+ghost use Rattle.bp_cert.specs.Texts.{claim_lines, all_certificate_lines, certificate_text, IsSpeakable};
 
 use crate::TextError;
 use crate::lines::Lines;
@@ -12,7 +12,7 @@ use crate::lines::spell::push_line;
 use crate::lines::write::{push_claim, write_text};
 use bp_edges::{Sink, WriteError};
 use bp_types::Certificate;
-use std::alloc::Global;
+use std::alloc::{AllocError, Global};
 
 const MOST_VALUE: u128 = 1_000_000_000_000_000_000_000_000_000_000;
 
@@ -46,7 +46,7 @@ pub fn certificate_lines(alloc: Global, lines: &mut Lines<'_>) -> Result<Certifi
 }
 
 fn read_lines(alloc: Global, lines: &mut Lines<'_>) -> Result<Certificate, TextError>
-    ensures { IsReading all_lines IsSpeakable lines.old lines.new result }
+    ensures { IsReading all_certificate_lines IsSpeakable lines.old lines.new result }
 {
     let mut numbers = Vec::new(alloc);
     word_line(lines, b"certificate 1", &mut numbers)?;
@@ -57,12 +57,26 @@ fn read_lines(alloc: Global, lines: &mut Lines<'_>) -> Result<Certificate, TextE
 
 /// Reads the text of a certificate, or says which line of it is the first wrong one.
 pub fn read_certificate(alloc: Global, bytes: &[u8]) -> Result<Certificate, TextError>
-    ensures { IsText all_lines IsSpeakable bytes.now result }
+    ensures { IsText all_certificate_lines IsSpeakable bytes.now result }
 {
     let mut lines = Lines::new(bytes);
     let certificate = read_lines(alloc, &mut lines)?;
     at_end(&lines)?;
     Ok(certificate)
+}
+
+/// The text of a certificate.
+pub fn text_of_certificate(
+    alloc: Global,
+    certificate: &Certificate,
+) -> Result<Vec<u8>, AllocError>
+    ensures { IfOk result (λ text. text.items ≡ certificate_text certificate.now) }
+{
+    let mut text = Vec::new(alloc);
+    push_line(&mut text, b"certificate 1", &[])?;
+    push_claim(&mut text, certificate)?;
+    push_line(&mut text, b"end", &[])?;
+    Ok(text)
 }
 
 /// Writes the text of a certificate.
@@ -77,9 +91,6 @@ pub fn write_certificate<K: Sink>(
     ensures steady { K.steady out.old → K.steady out.new }
     ensures faults { K.faults out.old ≤ K.faults out.new }
 {
-    let mut text = Vec::new(alloc);
-    push_line(&mut text, b"certificate 1", &[])?;
-    push_claim(&mut text, certificate)?;
-    push_line(&mut text, b"end", &[])?;
+    let text = text_of_certificate(alloc, certificate)?;
     write_text(alloc, &text, out)
 }

@@ -11,7 +11,7 @@ mod tests;
 mod text_error;
 mod verdict;
 
-pub use certificate_text::{read_certificate, write_certificate};
+pub use certificate_text::{read_certificate, text_of_certificate, write_certificate};
 pub use problem_text::read_problem;
 pub use text_error::TextError;
 pub use verdict::{Verdict, check};

@@ -97,7 +97,7 @@ too_low_follows h log roll inventory forecasts rates caller rooms amount displac
     follows_quiet h log roll inventory forecasts forecasts rates rates x kept quiet refl refl (kept.forecasts_are ∙ quiet_forecasts h log.lines x quiet (λ j. refl)) (kept.rates_are ∙ quiet_rates h log.lines x (λ j. refl))
 
 -- an accepted group takes its rooms
-stock_grouped : (h : Inn) (H : History) (caller rooms amount displacement : ℕ) (span : Span) → taken (inventory_of h H) span rooms ≡ inventory_of h (H ++ plain_line caller (Do (Group span rooms amount)) (GroupAccepted displacement) ∷ [])
+pub stock_grouped : (h : Inn) (H : History) (caller rooms amount displacement : ℕ) (span : Span) → taken (inventory_of h H) span rooms ≡ inventory_of h (H ++ plain_line caller (Do (Group span rooms amount)) (GroupAccepted displacement) ∷ [])
 stock_grouped h H caller rooms amount displacement span =
     let x : Line = plain_line caller (Do (Group span rooms amount)) (GroupAccepted displacement) in
     let same = rooms_stay h H x (λ n. refl) in

@@ -26,3 +26,10 @@ pub mod Openings
 pub mod Answering
 pub mod Cancelling
 pub mod Resizing
+pub mod Turns
+pub mod Instances
+pub mod Moves
+pub mod Causes
+pub mod LineLeads
+pub mod Between
+pub mod EveryList

@@ -50,7 +50,7 @@ opening_is_legal h board is at certifies =
       reply = refl;
     }
 
-opening_history_is_legal : (h : Inn) (board : Posted) → IsHouse h → board.position ≡ 0 → IsCertificateOf (opening h) board.certificate → IsLegal h (opening_line board ∷ [])
+pub opening_history_is_legal : (h : Inn) (board : Posted) → IsHouse h → board.position ≡ 0 → IsCertificateOf (opening h) board.certificate → IsLegal h (opening_line board ∷ [])
 opening_history_is_legal h board is at certifies = record {
   some_line = omega arith;
   lines = λ i within. first i within;

@@ -60,7 +60,7 @@ below_sold_follows h log roll inventory forecasts rates caller night rooms sold 
     (kept.rates_are ∙ quiet_rates h log.lines x (λ j. refl))
 
 -- the stock with the rooms of a night set
-stock_resized : (h : Inn) (H : History) (caller night rooms : ℕ) → night < length h.rooms → resized (inventory_of h H) night rooms ≡ inventory_of h (H ++ plain_line caller (Do (Resize night rooms)) Done ∷ [])
+pub stock_resized : (h : Inn) (H : History) (caller night rooms : ℕ) → night < length h.rooms → resized (inventory_of h H) night rooms ≡ inventory_of h (H ++ plain_line caller (Do (Resize night rooms)) Done ∷ [])
 stock_resized h H caller night rooms within =
     let x : Line = plain_line caller (Do (Resize night rooms)) Done in
     let G : History = H ++ x ∷ [] in

@@ -55,14 +55,14 @@ reprice_is_legal h H caller stay rate legal may range not_full = record {
   reply = refl;
 }
 
-reforecast_is_quiet : (caller stay count : ℕ) → IsQuiet (plain_line caller (Do (Reforecast stay count)) Done)
+pub reforecast_is_quiet : (caller stay count : ℕ) → IsQuiet (plain_line caller (Do (Reforecast stay count)) Done)
 reforecast_is_quiet caller stay count = record { no_book = refl; no_resize = λ n. refl; no_cancel = λ k nth. and_false (caller == k); no_group = λ n. refl }
 
-reprice_is_quiet : (caller stay rate : ℕ) → IsQuiet (plain_line caller (Do (Reprice stay rate)) Done)
+pub reprice_is_quiet : (caller stay rate : ℕ) → IsQuiet (plain_line caller (Do (Reprice stay rate)) Done)
 reprice_is_quiet caller stay rate = record { no_book = refl; no_resize = λ n. refl; no_cancel = λ k nth. and_false (caller == k); no_group = λ n. refl }
 
 -- the forecast that is set
-forecast_set : (h : Inn) (H : History) (caller stay count : ℕ) → forecast_of h (H ++ plain_line caller (Do (Reforecast stay count)) Done ∷ []) stay ≡ count
+pub forecast_set : (h : Inn) (H : History) (caller stay count : ℕ) → forecast_of h (H ++ plain_line caller (Do (Reforecast stay count)) Done ∷ []) stay ≡ count
 forecast_set h H caller stay count =
     let x : Line = plain_line caller (Do (Reforecast stay count)) Done in
     let value : Line → Option ℕ = λ y. reforecast_count stay y.entry.act in
@@ -82,7 +82,7 @@ reforecast_follows h log roll inventory forecasts rates caller stay count kept w
     (ap (λ (l : List ℕ). set l stay count) kept.forecasts_are ∙ numbers_set (forecast_of h H) (forecast_of h (H ++ x ∷ [])) (length h.stays) stay count within (sym (forecast_set h H caller stay count)) others)
     (kept.rates_are ∙ quiet_rates h H x (λ j. refl))
 
-rate_set : (h : Inn) (H : History) (caller stay rate : ℕ) → rate_of h (H ++ plain_line caller (Do (Reprice stay rate)) Done ∷ []) stay ≡ rate
+pub rate_set : (h : Inn) (H : History) (caller stay rate : ℕ) → rate_of h (H ++ plain_line caller (Do (Reprice stay rate)) Done ∷ []) stay ≡ rate
 rate_set h H caller stay rate =
     let x : Line = plain_line caller (Do (Reprice stay rate)) Done in
     let value : Line → Option ℕ = λ y. reprice_rate stay y.entry.act in

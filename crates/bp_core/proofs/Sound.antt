@@ -139,7 +139,7 @@ sound_more h H x sound legal = record {
 pub sound_at : (h : Inn) (H : History) (n : ℕ) → IsHouse h → IsLegal h H → n ≤ length H → IsSound h (take n H)
 sound_at h H n is legal within = at_each_position h (IsSound h) (sound_at_start h is) (λ G x sound line. sound_more h G x sound line) H legal n within
 
-units_stay_small : (h : Inn) (H : History) (n : ℕ) → IsHouse h → IsSound h H → n < length h.rooms → units_left_at h H n ≤ most_rooms
+pub units_stay_small : (h : Inn) (H : History) (n : ℕ) → IsHouse h → IsSound h H → n < length h.rooms → units_left_at h H n ≤ most_rooms
 units_stay_small h H n is sound g =
     let unit = unit_is_small h.limits.unit is.unit in
     let left : left_at h H n ≤ 10000 = omega (arith, sound.rooms n g) in

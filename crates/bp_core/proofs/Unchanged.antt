@@ -98,7 +98,7 @@ still caller Leave reply certificate silent = record {
 }
 
 -- a line that is no change leaves the instance
-instance_kept : (h : Inn) (H : History) (x : Line) → is_change x ≡ false → instance_of h H ≡ instance_of h (H ++ x ∷ [])
+pub instance_kept : (h : Inn) (H : History) (x : Line) → is_change x ≡ false → instance_of h H ≡ instance_of h (H ++ x ∷ [])
 instance_kept h H x silent =
     let s = still x.entry.caller x.entry.act x.entry.reply x.certificate silent in
     let rooms : (n : ℕ) → rooms_at h H n ≡ rooms_at h (H ++ x ∷ []) n = λ n. sym (last_value-push (resized_rooms n) (slice_index h.rooms n) H x ∙ ap (λ o. unwrap_or o (rooms_at h H n)) (s.quiet.no_resize n)) in

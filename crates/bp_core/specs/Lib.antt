@@ -5,6 +5,8 @@ pub mod Changes
 pub mod Answer
 pub mod Legal
 pub mod Acting
+pub mod Calls
+pub mod Leading
 pub mod Laws
 pub mod Deltas
 pub mod Log

@@ -6,11 +6,12 @@ ghost use Rattle.bp_types.specs.House.{opening};
 ghost use Rattle.bp_core.specs.declared.line.Line.{Line};
 ghost use Rattle.bp_core.specs.Lines.{published_position, is_accepted, commands, vectors, boards, last_position, last_prices};
 ghost use Rattle.bp_core.specs.Callers.{greatest_caller, may_act, may_enrol, left_of};
-ghost use Rattle.bp_core.specs.Instance.{rooms_at, sold_at, first_without, forecast_of, rate_of};
+ghost use Rattle.bp_core.specs.Instance.{rooms_at, sold_at, first_without, forecast_of, rate_of, instance_at};
 ghost use Rattle.bp_core.specs.Changes.{changes_between, changes_after, deltas_between, resize_delta};
 ghost use Rattle.bp_core.specs.Answer.{book_reply};
 ghost use Rattle.bp_core.specs.Legal.{IsLegal, IsCertificateOf};
 ghost use Rattle.bp_core.specs.Deltas.{delta_list};
+ghost use Rattle.bp_core.specs.Leading.{Leads};
 ghost use Rattle.bp_core.specs.Held.{IsHeld};
 ghost use Rattle.bp_core.specs.Acting.{Diary, MayCall, MayDo, IsQuoteFor, IsQuoteRight, IsAnswered, IsDone, opening_line, plain_line};
 
@@ -49,7 +50,6 @@ impl Model for Book {
     ghost invariant = { λ b. IsKept b.house b.log b.roll b.ledger b.forecasts.items b.rates.items };
 }
 
-/// The number of the greatest caller.
 /// The number of the greatest caller.
 const MOST_CALLERS: u32 = 63;
 
@@ -542,7 +542,8 @@ impl Book {
     }
 
     /// Fills in the changes of the entries from a position on, whole entries only and as many as fit, and
-    /// answers the position reached. Applied to the instance at `from` they give the instance there.
+    /// answers the position reached. Applied in turn to the instance at `from` they keep to its limits and
+    /// give the instance there.
     pub fn changes(&self, from: u64, into: &mut Vec<Change>) -> u64
         requires within { from ≤ length self.now.history }
         requires empty { into.old.items ≡ [] }
@@ -550,6 +551,7 @@ impl Book {
         ensures reached { (from ≤ result) × (result ≤ length self.now.history) }
         ensures moves { from < length self.now.history → from < result }
         ensures items { into.new.items ≡ deltas_between self.now.house self.now.history from result }
+        ensures leads { Leads (instance_at self.now.house self.now.history from) into.new.items (instance_at self.now.house self.now.history result) }
         ensures full { result < length self.now.history → vec_capacity into.old < length (deltas_between self.now.house self.now.history from (result + 1)) }
         ensures capacity { vec_capacity into.new ≡ vec_capacity into.old }
     {
@@ -565,6 +567,7 @@ impl Book {
         ensures reached { (from ≤ result) × (result ≤ until) }
         ensures moves { from < until → from < result }
         ensures items { into.new.items ≡ deltas_between self.now.house self.now.history from result }
+        ensures leads { Leads (instance_at self.now.house self.now.history from) into.new.items (instance_at self.now.house self.now.history result) }
         ensures full { result < until → vec_capacity into.old < length (deltas_between self.now.house self.now.history from (result + 1)) }
         ensures capacity { vec_capacity into.new ≡ vec_capacity into.old }
     {

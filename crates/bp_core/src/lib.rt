@@ -6,12 +6,16 @@
 
 mod book;
 mod call;
+mod calls;
 mod deltas;
 pub mod law;
 mod line;
 mod log;
 mod roll;
+mod threads;
 
 pub use book::Book;
 pub use call::{Answer, Call};
+pub use calls::{Made, make_all};
 pub use line::{Act, Entry, Line, Reply};
+pub use threads::book_crosses_threads;

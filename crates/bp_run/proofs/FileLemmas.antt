@@ -12,9 +12,8 @@ use Rattle.bp_run.specs.Ends.{IsRead}
 use Rattle.bp_run.specs.Stops.{StopsAt, StopsIn, refused_by_reader}
 use Rattle.bp_run.specs.declared.end.Cause.{Cause}
 use Rattle.bp_run.specs.declared.end.Cause.TheVariants.{TooLong, BadLine, Limit, TooShort, Trailing}
-use Rattle.bp_run.specs.declared.end.End.TheVariants.{NotPlain, Fault, Refused, Checked}
 use Rattle.bp_run.specs.declared.files.Stop.{Stop}
-use Rattle.bp_run.specs.declared.files.Stop.TheVariants.{Memory, At}
+use Rattle.bp_run.specs.declared.files.Stop.TheVariants.{Memory, Fault, Refused}
 
 -- the bytes that were read are this text
 pub read_as : (held : Option Files) (kind : Kind) (name : Word) (bytes now text : List ℕ) → now ≡ bytes → now ≡ text
@@ -89,10 +88,8 @@ module _ (early late : Fetches) (file : NamedFile) (later : IsLater early late) 
 
   pub stops_earlier : (number : ℕ) (stop : Stop) → StopsAt late file number stop → StopsAt early file number stop
   stops_earlier number Memory stops = tt
-  stops_earlier number (At NotPlain) stops = stops
-  stops_earlier number (At (Fault k)) stops = (stops.0, fails_earlier stops.1)
-  stops_earlier number (At (Refused k cause)) stops = (stops.0, refused_earlier cause stops.1)
-  stops_earlier number (At (Checked verdict)) stops = stops
+  stops_earlier number (Fault k) stops = (stops.0, fails_earlier stops.1)
+  stops_earlier number (Refused k cause) stops = (stops.0, refused_earlier cause stops.1)
 
 -- where the files before it are good, one of the files gave no value
 module _ (shelf : Fetches) (before : List NamedFile) (file : NamedFile) (after : List NamedFile)
@@ -102,10 +99,8 @@ module _ (shelf : Fetches) (before : List NamedFile) (file : NamedFile) (after :
 
   pub stops_in : (stop : Stop) → StopsAt shelf file (length before + 1) stop → StopsIn shelf (before ++ file ∷ after) stop
   stops_in Memory stops = tt
-  stops_in (At NotPlain) stops = stops
-  stops_in (At (Fault k)) stops = comes_at (Fails shelf) k stops
-  stops_in (At (Refused k cause)) stops = comes_at (IsRefusedFor shelf cause) k stops
-  stops_in (At (Checked verdict)) stops = stops
+  stops_in (Fault k) stops = comes_at (Fails shelf) k stops
+  stops_in (Refused k cause) stops = comes_at (IsRefusedFor shelf cause) k stops
 
 -- every file of none is good
 pub none_before : (held : Option Files) → ForSome held (λ files. All (IsGood files) [])
@@ -118,6 +113,10 @@ one_before held file good = λ files e. only (IsGood files) (good files e)
     only : (P : NamedFile → Type 0) → P file → All P (file ∷ [])
     only P holds zero d h = holds
     only P holds (suc k) d h = absurd (omega arith)
+
+-- the file is there
+pub there_alone : (all : Files) (file : NamedFile) → All (λ file. IsSome (get all file.name)) (file ∷ []) → IsSome (get all file.name)
+there_alone all file each = each 0 file (omega arith)
 
 -- each of two files is there
 pub there_first : (all : Files) (first second : NamedFile) → All (λ file. IsSome (get all file.name)) (first ∷ second ∷ []) → IsSome (get all first.name)

@@ -7,8 +7,8 @@ use Rattle.bp_edges.specs.Held.{Files}
 use Rattle.bp_cert.specs.declared.text_error.TextError.{TextError}
 use Rattle.bp_cert.specs.declared.text_error.TextError.TheVariants.{BadLine as BadForm, Limit as OutOfLimit, TooShort as EndsEarly, Trailing as GoesOn}
 use Rattle.bp_cert.specs.Reading.{IsText}
-use Rattle.bp_cert.specs.Texts.{problem_lines, certificate_lines, IsProblem, IsSpeakable}
-use Rattle.bp_run.specs.Words.{Word, Task, check}
+use Rattle.bp_cert.specs.Texts.{problem_lines, all_certificate_lines, IsProblem, IsSpeakable}
+use Rattle.bp_run.specs.Words.{Word, Task, check, solve, group}
 use Rattle.bp_run.specs.declared.end.Cause.{Cause}
 use Rattle.bp_run.specs.declared.end.Cause.TheVariants.{TooLong, BadLine, Limit, TooShort, Trailing}
 
@@ -25,6 +25,8 @@ pub record NamedFile : Type 0 where
 -- the files of a task, in their order
 abbrev pub files : Task → List NamedFile
 files (check p c) = record { kind = problem; name = p } ∷ record { kind = certificate; name = c } ∷ []
+files (solve p) = record { kind = problem; name = p } ∷ []
+files (group p from to rooms) = record { kind = problem; name = p } ∷ []
 
 -- how many bytes a file may have: 16 MiB
 abbrev pub most_bytes : Kind → ℕ
@@ -34,12 +36,12 @@ most_bytes certificate = 2 ^ 24
 -- the bytes are a text of the kind
 abbrev pub IsAccepted : Kind → List ℕ → Type 0
 IsAccepted problem bytes = (p : Program) × IsText problem_lines IsProblem bytes (Ok p)
-IsAccepted certificate bytes = (c : Claim) × IsText certificate_lines IsSpeakable bytes (Ok c)
+IsAccepted certificate bytes = (c : Claim) × IsText all_certificate_lines IsSpeakable bytes (Ok c)
 
 -- the bytes are no text of the kind, and this is the first thing that is wrong with them
 abbrev pub IsRefused : Kind → List ℕ → TextError → Type 0
 IsRefused problem bytes error = IsText problem_lines IsProblem bytes (Err error)
-IsRefused certificate bytes error = IsText certificate_lines IsSpeakable bytes (Err error)
+IsRefused certificate bytes error = IsText all_certificate_lines IsSpeakable bytes (Err error)
 
 -- the file is short enough and a text of its kind
 pub record IsGoodText (kind : Kind) (bytes : List ℕ) : Type 0 where

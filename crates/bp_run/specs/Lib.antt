@@ -1,4 +1,5 @@
 pub mod Words
+pub mod Asked
 pub mod Files
 pub mod Fetches
 pub mod Lines

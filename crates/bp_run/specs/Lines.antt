@@ -1,12 +1,13 @@
 -- What each end of a call says: its status and its text.
 use Rattle.std.specs.Prelude.{ℕ, List, [], ◌∷◌, ◌++◌, codes}
 use Rattle.std.specs.Fmt.{decimal}
+use Rattle.bp_cert.specs.Texts.{certificate_text}
 use Rattle.bp_cert.specs.declared.verdict.Verdict.{Verdict}
 use Rattle.bp_cert.specs.declared.verdict.Verdict.TheVariants.{WrongLength, PriceTooGreat, AboveForecast, Overfull, Gap, Misvalued, Optimal}
 use Rattle.bp_run.specs.declared.end.Cause.{Cause}
 use Rattle.bp_run.specs.declared.end.Cause.TheVariants.{TooLong, BadLine, Limit, TooShort, Trailing}
 use Rattle.bp_run.specs.declared.end.End.{End}
-use Rattle.bp_run.specs.declared.end.End.TheVariants.{NotPlain, Fault, Refused, Checked}
+use Rattle.bp_run.specs.declared.end.End.TheVariants.{NotPlain, Fault, Refused, Checked, Solved, Quoted, BadSpan, NoRoom}
 
 -- the numbers, each behind one space, and the line's end
 abbrev pub numbers_behind : List ℕ → List ℕ
@@ -57,6 +58,10 @@ said NotPlain = usage
 said (Fault file) = line (codes "fault") (file ∷ [])
 said (Refused file cause) = refusal_line file cause
 said (Checked verdict) = verdict_line verdict
+said (Solved claim) = certificate_text claim
+said (Quoted displacement before after) = line (codes "displacement") (displacement ∷ []) ++ (certificate_text before ++ certificate_text after)
+said BadSpan = line (codes "refused span") []
+said (NoRoom night) = line (codes "noroom") (night ∷ [])
 
 -- the status of a verdict: 0 for the optimum, and 1 for each other
 abbrev pub verdict_status : Verdict → ℕ
@@ -74,3 +79,7 @@ status_of NotPlain = 2
 status_of (Fault file) = 4
 status_of (Refused file cause) = 3
 status_of (Checked verdict) = verdict_status verdict
+status_of (Solved claim) = 0
+status_of (Quoted displacement before after) = 0
+status_of BadSpan = 3
+status_of (NoRoom night) = 3

@@ -5,38 +5,31 @@ use Rattle.bp_cert.specs.declared.text_error.TextError.TheVariants.{BadLine as B
 use Rattle.bp_run.specs.Files.{NamedFile}
 use Rattle.bp_run.specs.Fetches.{Fetches, Fails, IsRefusedFor, ComesAt}
 use Rattle.bp_run.specs.declared.end.Cause.TheVariants.{BadLine, Limit, TooShort, Trailing}
-use Rattle.bp_run.specs.declared.end.End.TheVariants.{NotPlain, Fault, Refused, Checked}
 use Rattle.bp_run.specs.declared.files.Stop.{Stop}
-use Rattle.bp_run.specs.declared.files.Stop.TheVariants.{Memory, At}
+use Rattle.bp_run.specs.declared.files.Stop.TheVariants.{Memory, Fault, Refused}
 
 -- this file, which has this number, gave no value
 abbrev pub StopsAt : Fetches → NamedFile → ℕ → Stop → Type 0
 StopsAt shelf file number Memory = Unit {0}
-StopsAt shelf file number (At NotPlain) = ⊥
-StopsAt shelf file number (At (Fault k)) = (k ≡ number) × Fails shelf file
-StopsAt shelf file number (At (Refused k cause)) = (k ≡ number) × IsRefusedFor shelf cause file
-StopsAt shelf file number (At (Checked verdict)) = ⊥
+StopsAt shelf file number (Fault k) = (k ≡ number) × Fails shelf file
+StopsAt shelf file number (Refused k cause) = (k ≡ number) × IsRefusedFor shelf cause file
 
 -- one of these files gave no value, and every file before it did
 abbrev pub StopsIn : Fetches → List NamedFile → Stop → Type 0
 StopsIn shelf all Memory = Unit {0}
-StopsIn shelf all (At NotPlain) = ⊥
-StopsIn shelf all (At (Fault k)) = ComesAt shelf.held (Fails shelf) all k
-StopsIn shelf all (At (Refused k cause)) = ComesAt shelf.held (IsRefusedFor shelf cause) all k
-StopsIn shelf all (At (Checked verdict)) = ⊥
+StopsIn shelf all (Fault k) = ComesAt shelf.held (Fails shelf) all k
+StopsIn shelf all (Refused k cause) = ComesAt shelf.held (IsRefusedFor shelf cause) all k
 
 -- the shelf failed
 abbrev pub IsFault : Stop → Type 0
 IsFault Memory = ⊥
-IsFault (At NotPlain) = ⊥
-IsFault (At (Fault k)) = Unit {0}
-IsFault (At (Refused k cause)) = ⊥
-IsFault (At (Checked verdict)) = ⊥
+IsFault (Fault k) = Unit {0}
+IsFault (Refused k cause) = ⊥
 
 -- the file with this number is refused by its reader
 abbrev pub refused_by_reader : ℕ → TextError → Stop
-refused_by_reader file (BadForm line) = At (Refused file (BadLine line))
-refused_by_reader file (OutOfLimit line) = At (Refused file (Limit line))
-refused_by_reader file EndsEarly = At (Refused file TooShort)
-refused_by_reader file (GoesOn line) = At (Refused file (Trailing line))
+refused_by_reader file (BadForm line) = Refused file (BadLine line)
+refused_by_reader file (OutOfLimit line) = Refused file (Limit line)
+refused_by_reader file EndsEarly = Refused file TooShort
+refused_by_reader file (GoesOn line) = Refused file (Trailing line)
 refused_by_reader file NoMemory = Memory

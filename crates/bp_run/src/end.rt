@@ -1,6 +1,7 @@
 //! How a call of the program ends.
 
 use bp_cert::Verdict;
+use bp_types::Certificate;
 
 /// Why a file is refused. Lines count from 1.
 #[derive(Clone, Copy, Debug, PartialEq, Eq)]
@@ -18,14 +19,33 @@ pub enum Cause {
 }
 
 /// How a call ends where there is memory and the sink takes the text. Files count from 1, in the order of the words.
-#[derive(Clone, Copy, Debug, PartialEq, Eq)]
+#[derive(Debug, Drop)]
 pub enum End {
     /// The words are no plain line.
     NotPlain,
     /// The shelf failed at this file.
-    Fault { file: u64 },
+    Fault {
+        file: u64,
+    },
     /// This file is the first one that is refused.
-    Refused { file: u64, cause: Cause },
+    Refused {
+        file: u64,
+        cause: Cause,
+    },
     /// The certificate was checked.
     Checked(Verdict),
+    /// The problem was solved: its certificate with the least prices.
+    Solved(Certificate),
+    /// A group was quoted: its displacement, in minor units of money, and both optima with their least prices.
+    Quoted {
+        displacement: u128,
+        before: Certificate,
+        after: Certificate,
+    },
+    /// The group's nights are no span of the problem.
+    BadSpan,
+    /// This night is the first of the group's that lacks the rooms.
+    NoRoom {
+        night: u32,
+    },
 }

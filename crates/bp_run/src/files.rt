@@ -8,7 +8,7 @@ ghost use Rattle.bp_run.specs.Fetches.{over};
 ghost use Rattle.bp_run.specs.Ends.{IsRead};
 ghost use Rattle.bp_run.specs.Stops.{StopsAt, IsFault, refused_by_reader};
 
-use crate::{Cause, End};
+use crate::Cause;
 use bp_cert::{TextError, read_certificate, read_problem};
 use bp_edges::{Shelf, ShelfError};
 use bp_types::{Certificate, Instance};
@@ -21,8 +21,10 @@ const MOST_BYTES: u64 = 1 << 24;
 pub enum Stop {
     /// There was no memory.
     Memory,
-    /// The call ends so.
-    At(End),
+    /// The shelf failed at this file.
+    Fault { file: u64 },
+    /// This file is refused.
+    Refused { file: u64, cause: Cause },
 }
 
 // Fetches a file of at most 16 MiB.
@@ -42,11 +44,11 @@ fn fetch_file<S: Shelf>(
 {
     match shelf.fetch(alloc, name, MOST_BYTES) {
         Ok(bytes) => Ok(bytes),
-        Err(ShelfError::Failed) => Err(Stop::At(End::Fault { file })),
-        Err(ShelfError::TooLong) => Err(Stop::At(End::Refused {
+        Err(ShelfError::Failed) => Err(Stop::Fault { file }),
+        Err(ShelfError::TooLong) => Err(Stop::Refused {
             file,
             cause: Cause::TooLong,
-        })),
+        }),
         Err(ShelfError::Memory) => Err(Stop::Memory),
     }
 }
@@ -62,7 +64,7 @@ fn refused(file: u64, error: TextError) -> Stop
         TextError::Trailing { line } => Cause::Trailing { line },
         TextError::Memory => return Stop::Memory,
     };
-    Stop::At(End::Refused { file, cause })
+    Stop::Refused { file, cause }
 }
 
 /// The problem in the file with this name, which is the file with this number.

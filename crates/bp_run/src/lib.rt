@@ -6,6 +6,7 @@ mod files;
 mod lines;
 mod outcome;
 mod print;
+mod solve;
 mod task;
 mod top;
 

@@ -3,7 +3,8 @@ ghost use Rattle.std.specs.Prelude.{◌≡◌, IfOk, string_bytes};
 ghost use Rattle.bp_run.specs.Lines.{said, status_of, refusal_line, verdict_line, usage};
 
 use crate::{Cause, End};
-use bp_cert::Verdict;
+use bp_cert::{Verdict, text_of_certificate};
+use bp_types::Certificate;
 use std::alloc::{AllocError, Global};
 
 const USAGE: &str = "usage:
@@ -58,27 +59,55 @@ fn fault_text(alloc: Global, file: u64) -> Result<String, AllocError>
     format!(in alloc; "fault {file}\n")
 }
 
+fn quote_text(
+    alloc: Global,
+    displacement: u128,
+    before: &Certificate,
+    after: &Certificate,
+) -> Result<Vec<u8>, AllocError>
+    ensures { IfOk result (λ text. text.items ≡ said (End.Quoted displacement before.now after.now)) }
+{
+    let mut text = format!(in alloc; "displacement {displacement}\n")?.into_bytes();
+    text.extend_from_slice(&text_of_certificate(alloc, before)?)?;
+    text.extend_from_slice(&text_of_certificate(alloc, after)?)?;
+    Ok(text)
+}
+
+fn no_room_text(alloc: Global, night: u32) -> Result<String, AllocError>
+    ensures { IfOk result (λ text. string_bytes text ≡ said (End.NoRoom night)) }
+{
+    format!(in alloc; "noroom {night}\n")
+}
+
 /// The text of an end.
-pub fn text_of(alloc: Global, end: End) -> Result<String, AllocError>
-    ensures { IfOk result (λ text. string_bytes text ≡ said end) }
+pub fn text_of(alloc: Global, end: &End) -> Result<Vec<u8>, AllocError>
+    ensures { IfOk result (λ text. text.items ≡ said end.now) }
 {
     match end {
-        End::NotPlain => usage_text(alloc),
-        End::Fault { file } => fault_text(alloc, file),
-        End::Refused { file, cause } => refusal_text(alloc, file, cause),
-        End::Checked(verdict) => verdict_text(alloc, verdict),
+        End::NotPlain => Ok(usage_text(alloc)?.into_bytes()),
+        End::Fault { file } => Ok(fault_text(alloc, *file)?.into_bytes()),
+        End::Refused { file, cause } => Ok(refusal_text(alloc, *file, *cause)?.into_bytes()),
+        End::Checked(verdict) => Ok(verdict_text(alloc, *verdict)?.into_bytes()),
+        End::Solved(certificate) => text_of_certificate(alloc, certificate),
+        End::Quoted {
+            displacement,
+            before,
+            after,
+        } => quote_text(alloc, *displacement, before, after),
+        End::BadSpan => Ok(String::from_str(alloc, "refused span\n")?.into_bytes()),
+        End::NoRoom { night } => Ok(no_room_text(alloc, *night)?.into_bytes()),
     }
 }
 
 /// The status of an end.
-pub fn status_of_end(end: End) -> u8
-    ensures { result ≡ status_of end }
+pub fn status_of_end(end: &End) -> u8
+    ensures { result ≡ status_of end.now }
 {
     match end {
-        End::Checked(Verdict::Optimal { .. }) => 0,
+        End::Checked(Verdict::Optimal { .. }) | End::Solved(_) | End::Quoted { .. } => 0,
         End::Checked(_) => 1,
         End::NotPlain => 2,
-        End::Refused { .. } => 3,
+        End::Refused { .. } | End::BadSpan | End::NoRoom { .. } => 3,
         End::Fault { .. } => 4,
     }
 }

@@ -45,7 +45,7 @@ pub fn run_plain<S: Shelf, K: Sink>(
     law::problems_have_one_spelling();
     law::certificates_have_one_spelling();
     match end_of(alloc, words, shelf) {
-        Ok(end) => finish(alloc, end, out),
+        Ok(end) => finish(alloc, &end, out),
         Err(_) => NO_MEMORY,
     }
 }
@@ -74,7 +74,7 @@ pub fn run<R: Wait + Threads, S: Shelf, K: Sink, G: Gate>(
         → (result ≤ 1) ⊎ (result ≡ 6) }
 {
     if may_start_threads(words) {
-        return finish(alloc, End::NotPlain, out);
+        return finish(alloc, &End::NotPlain, out);
     }
     run_plain(alloc, words, shelf, out)
 }

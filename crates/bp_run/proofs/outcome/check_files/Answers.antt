@@ -17,7 +17,7 @@ returns-in_err-problem-clause-unfailing g c =
 pub returns-in_err-certificate-clause-stopped : goal.returns-in_err-certificate-clause-stopped
 returns-in_err-certificate-clause-stopped g c =
     let p = err_from_is_err_and c.from_residual-in_err-certificate.result c.from_residual-in_err-certificate.ensures.1 in
-    let first : NamedFile = record { kind = problem; name = c.args.task.now.problem.now } in
+    let first : NamedFile = record { kind = problem; name = c.args.problem.now } in
     let good = good_file _ problem _ _ c.in_ok-problem.ensures.read (c.in_ok-problem.problem, (c.in_ok-problem.ensures.within, refl)) in
     rw (p.1, p.2) (stops_in _ (first ∷ []) _ [] (one_before _ first good) _ (stops_earlier _ _ _ (record {
       held = c.load_problem.ensures.held;

@@ -1,7 +1,10 @@
 use Rattle.std.proofs.Common.{inr, arith}
-use Rattle.bp_run.proofs.EndLemmas.{breaks_off, done_or_no_memory}
+use Rattle.bp_run.proofs.EndLemmas.{finishes, breaks_off, done_or_no_memory}
 use Rattle.bp_run.proofs.CompleteLemmas.{AreReadOneWay, complete, holds_all}
 use Rattle.bp_run.proofs.top.run_plain.Goals as goal
+
+pub returns-in-Ok-clause-done : goal.returns-in-Ok-clause-done
+returns-in-Ok-clause-done g c = λ few. finishes _ _ c.in-Ok.end c.in-Ok.ensures.end (c.finish.ensures.done few)
 
 pub returns-in-Ok-clause-cut_off : goal.returns-in-Ok-clause-cut_off
 returns-in-Ok-clause-cut_off g c = λ is.

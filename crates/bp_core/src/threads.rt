@@ -1,0 +1,14 @@
+use crate::{Answer, Book, Call, Entry, Line, Made};
+
+fn moves<T: Send>() {}
+
+/// A book moves between threads, and so does what goes into it and comes out. It does nothing: that it is
+/// proved says so.
+pub fn book_crosses_threads() {
+    moves::<Book>();
+    moves::<Line>();
+    moves::<Entry>();
+    moves::<Call>();
+    moves::<Made>();
+    moves::<Answer>();
+}

@@ -1,0 +1,28 @@
+-- Changes that are made one after another.
+use Rattle.std.specs.Prelude.{ℕ, ◌+◌, ◌*◌, List, [], ◌∷◌}
+use Rattle.bp_types.specs.declared.change.Change.{Change}
+use Rattle.bp_types.specs.declared.change.Change.TheVariants.{Rooms, Demand, Rate}
+use Rattle.bp_types.specs.Program.{Program, stay_at}
+use Rattle.bp_types.specs.Changes.{changed, Fits}
+use Rattle.bp_flow.specs.Solvers.{difference}
+
+-- the program after the changes, in their order
+abbrev pub changed_by_all : Program → List Change → Program
+changed_by_all p [] = p
+changed_by_all p (c ∷ cs) = changed_by_all (changed p c) cs
+
+-- each change keeps to the limits of the program that it comes to
+abbrev pub FitInTurn : Program → List Change → Type 0
+FitInTurn p [] = Unit {0}
+FitInTurn p (c ∷ cs) = Fits p c × FitInTurn (changed p c) cs
+
+-- how many units a change of the program moves at most
+abbrev pub units_moved : Program → Change → ℕ
+units_moved p (Rooms span up units) = units
+units_moved p (Demand stay value) = difference (stay_at p stay).forecast value
+units_moved p (Rate stay value) = 2 * (stay_at p stay).forecast
+
+-- the sum of what the changes move, each of the program that it comes to
+abbrev pub units_moved_by_all : Program → List Change → ℕ
+units_moved_by_all p [] = 0
+units_moved_by_all p (c ∷ cs) = units_moved p c + units_moved_by_all (changed p c) cs

@@ -1,0 +1,13 @@
+//! Restarts: from the optimum of an instance to that of the instance after some changes.
+//!
+//! A booking, a cancellation, a new forecast or a new rate changes the linear program a little. The flow of
+//! the solver is mended for each change in turn, and its prices are settled once at the end, so a restart
+//! costs what the changes move and not what the instance is large.
+#![tactic(auto)]
+
+pub mod law;
+mod restart;
+#[cfg(test)]
+mod tests;
+
+pub use restart::catch_up;

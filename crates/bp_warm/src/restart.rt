@@ -1,0 +1,49 @@
+ghost use Rattle.std.specs.Prelude.{◌≡◌, ◌+◌};
+ghost use Rattle.bp_types.specs.Changes.{changed, Fits};
+ghost use Rattle.bp_flow.specs.Settled.{IsSettled, IsSolvable};
+ghost use Rattle.bp_flow.specs.Solvers.{CountsUpTo, IsSolved};
+ghost use Rattle.bp_warm.specs.Turns.{FitInTurn, changed_by_all, units_moved, units_moved_by_all};
+
+use bp_flow::Solver;
+use bp_types::{Change, Steps};
+use std::sync::ledger::Ledger;
+
+/// Makes the changes in turn, and then the prices the least optimal ones. It takes no memory.
+///
+/// It makes as many searches as the changes move units, and one more, at most. A change of rooms moves its
+/// units, one of a forecast the difference of the two, and one of a rate twice the forecast of its stay.
+pub fn catch_up<L: Ledger>(solver: &mut Solver, changes: &[Change], steps: &mut Steps<L>)
+    requires { FitInTurn solver.old.flow.program changes.now }
+    ensures program { solver.new.flow.program ≡ changed_by_all solver.old.flow.program changes.now }
+    ensures settled { IsSettled solver.new }
+    ensures solved { IsSolved solver.new }
+    ensures solvable { IsSolvable solver.new.flow.program }
+    ensures counted { CountsUpTo steps.old steps.new (units_moved_by_all solver.old.flow.program changes.now + 1) }
+{
+    for change in changes {
+        make(solver, *change, steps);
+    }
+    solver.settle(steps);
+}
+
+/// Makes one change.
+fn make<L: Ledger>(solver: &mut Solver, change: Change, steps: &mut Steps<L>)
+    requires { Fits solver.old.flow.program change }
+    ensures program { solver.new.flow.program ≡ changed solver.old.flow.program change }
+    ensures counted { CountsUpTo steps.old steps.new (units_moved solver.old.flow.program change) }
+{
+    match change {
+        Change::Rooms {
+            span,
+            up: true,
+            units,
+        } => solver.raise(span, units, steps),
+        Change::Rooms {
+            span,
+            up: false,
+            units,
+        } => solver.lower(span, units, steps),
+        Change::Demand { stay, value } => solver.demand(stay, value, steps),
+        Change::Rate { stay, value } => solver.reprice(stay, value, steps),
+    }
+}

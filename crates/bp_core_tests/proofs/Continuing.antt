@@ -13,7 +13,6 @@ use Rattle.bp_types.specs.Laws.{CertificateIsOptimal}
 use Rattle.bp_board.specs.Posted.{Posted}
 use Rattle.bp_core.specs.declared.call.Call.{Call}
 use Rattle.bp_core.specs.declared.call.Answer.{Answer}
-use Rattle.bp_core.specs.Lines.{History}
 use Rattle.bp_core.specs.Instance.{instance_of, instance_at}
 use Rattle.bp_core.specs.Legal.{IsCertificateOf}
 use Rattle.bp_core.specs.Acting.{Diary, line_of, IsLogged, IsRefused}

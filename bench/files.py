@@ -4,10 +4,11 @@
     bench/files.py
 
 It wants rt and gcc, and takes a few minutes, most of them for proofs. The files are made in out/bench. Both sides read
-from memory and are timed from within, the best of many readings: this repository's readers give the stays, their
-forecasts and the rooms sold, or the first refusal; Python's csv module gives the records as lists of texts, and looks
-at none of them. It fails where the readers take longer, where the program needs more memory than eight times the
-files and 16 MiB, or where the two stays files of examples/lindenhof do not say the same.
+from memory and are timed from within, in turn, the best of many readings: this repository's readers give the stays,
+their forecasts and the rooms sold, or the first refusal; Python's csv.reader gives the records as lists of texts, and
+its csv.DictReader as fields by the names of their columns, and neither looks at any of them. The script fails where
+the readers take longer than csv.reader, where the program needs more memory than eight times the files and 16 MiB, or
+where the two stays files of examples/lindenhof do not say the same.
 """
 import csv
 import io
@@ -20,7 +21,7 @@ import time
 from check import FOLDER, HERE, TOP, build
 from generate import generate
 
-READINGS = 200
+ROUNDS, READINGS = 8, 50
 NIGHTS, ROOMS, STAYS = 400, 10000, 4000
 HOTEL = f'name = "Bench"\nfirst_night = "2025-01-01"\nnights = {NIGHTS}\nrooms = {ROOMS}\nunit = 100\n'
 
@@ -41,15 +42,15 @@ def tables():
     return ["\n".join(lines + [""]) for lines in (stays, counts, sold)]
 
 
-def python_reads(texts):
-    """Microseconds in which Python's csv module reads these texts, at best."""
+def python_reads(reader, texts):
+    """Microseconds in which a reader of Python's csv module reads these texts, at best."""
     best = None
     for _ in range(READINGS):
         begin = time.perf_counter_ns()
-        read = [list(csv.reader(io.StringIO(text, newline=""))) for text in texts]
+        for text in texts:
+            list(reader(io.StringIO(text, newline="")))
         taken = time.perf_counter_ns() - begin
         best = taken if best is None else min(best, taken)
-    assert all(len(records) == STAYS + 1 for records in read)
     return best / 1000
 
 
@@ -80,13 +81,21 @@ def measure(program):
     for name, text in zip(files, [HOTEL, *texts]):
         with open(name, "w") as out:
             out.write(text)
-    ours = int(said(program, *files, str(READINGS))) / 1000
-    theirs = python_reads(texts)
+    rounds = [
+        (
+            int(said(program, *files, str(READINGS))) / 1000,
+            python_reads(csv.reader, texts),
+            python_reads(csv.DictReader, texts),
+        )
+        for _ in range(ROUNDS)
+    ]
+    ours, theirs, by_name = map(min, zip(*rounds))
     peak = int(subprocess.run([build("peak"), program, *files], capture_output=True, check=True).stderr)
     size = sum(map(os.path.getsize, files))
-    print(f"{STAYS} stays, {size} bytes: {ours:.0f} us, Python's csv {theirs:.0f} us, {ours / theirs:.2f} times as long; peak {peak} KiB")
+    print(f"{STAYS} stays in {size} bytes: {ours:.0f} us, {ours / theirs:.2f} times csv.reader's {theirs:.0f} us")
+    print(f"csv.DictReader {by_name:.0f} us; peak {peak} KiB")
     if ours > theirs:
-        sys.exit("the readers take longer than Python's csv module")
+        sys.exit("the readers take longer than csv.reader")
     if peak * 1024 > 8 * size + 16 * 1024 * 1024:
         sys.exit("the program takes too much memory")
 

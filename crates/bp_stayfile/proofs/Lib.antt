@@ -6,4 +6,5 @@ pub mod CodeLemmas
 pub mod ReadLemmas
 pub mod StayLemmas
 pub mod CountLemmas
+pub mod ForecastLemmas
 pub mod BookingLemmas

@@ -2,8 +2,8 @@
 use Rattle.std.proofs.Common.{◌≡◌, ℕ, zero, suc, ◌+◌, ◌≤◌, List, [], ◌∷◌, ◌++◌, length, get_or, Result, Ok, Err, arith, add-one, inl, inr}
 use Rattle.std.proofs.lemmas.Bool.{cases_eq}
 use Rattle.bp_stayfile.specs.declared.error.TableError.{TableError}
-use Rattle.bp_stayfile.specs.Tables.{Record}
-use Rattle.bp_stayfile.specs.Reading.{rows_read}
+use Rattle.bp_stayfile.specs.Tables.{Record, Table}
+use Rattle.bp_stayfile.specs.Reading.{rows_read, table_read, IsRefusedAfter, stops_at}
 
 -- one row more
 pub rows_read-more : {A : Type 0} (rule : List A → Record → Result A TableError) (rows : List Record) (n : ℕ) (before : List A) (answer : A) →
@@ -23,3 +23,11 @@ pub rows_read-refused : {A : Type 0} (rule : List A → Record → Result A Tabl
     rows_read rule rows n ≡ Ok before → rule before (get_or rows n []) ≡ Err e → n + 1 ≤ length rows → rows_read rule rows (length rows) ≡ Err e
 rows_read-refused rule rows n before e so_far here within =
     rows_read-stays rule rows e (n + 1) (length rows) (rw (add-one, so_far, here)) within
+
+-- a table that is refused after some rows has that refusal
+pub refused_after-table : {A : Type 0} (rule : List A → Record → Result A TableError) (table : Table) (before : List A) (e : TableError) → IsRefusedAfter rule table before e → table_read rule table ≡ Err e
+refused_after-table rule table before e h = by_stop h.stops
+  where
+    by_stop : stops_at rule table h.read_rows before e → table_read rule table ≡ Err e
+    by_stop (inl (within, wrong)) = rw (rows_read-refused rule table.rows h.read_rows before e h.read wrong (omega arith))
+    by_stop (inr (all, stopped)) = let read : rows_read rule table.rows (length table.rows) ≡ Ok before = rw (← all) h.read in rw read stopped

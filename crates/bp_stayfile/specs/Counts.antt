@@ -12,10 +12,10 @@ use Rattle.bp_stayfile.specs.declared.column.Column.TheVariants as column
 use Rattle.bp_stayfile.specs.declared.counts.Counted.{Counted}
 use Rattle.bp_stayfile.specs.declared.error.TableError.{TableError}
 use Rattle.bp_stayfile.specs.declared.error.TableError.TheVariants.{NoCode, Limit, TwiceCode, Overbooked}
-use Rattle.bp_stayfile.specs.Tables.{Record, table_of}
+use Rattle.bp_stayfile.specs.Tables.{Record, Table, table_of}
 use Rattle.bp_stayfile.specs.Cells.{code_in, number_in}
 use Rattle.bp_stayfile.specs.Codes.{stay_with}
-use Rattle.bp_stayfile.specs.Reading.{table_read}
+use Rattle.bp_stayfile.specs.Reading.{table_read, IsRefusedAfter}
 
 -- the count that a list of counts has for a stay
 abbrev pub count_of : List Counted → ℕ → Option ℕ
@@ -61,6 +61,13 @@ forecast_by (Some count) s = record s { forecast = count }
 abbrev pub forecasts_set : List Counted → List Stay → List Stay
 forecasts_set counts stays =
     map (λ j. forecast_by (count_of counts j) (slice_index_or stays j no_stay)) (range_with_len 0 (length stays))
+
+-- the stays after a refusal: the records before the refused one have set their forecasts, and none has where the
+-- header is refused
+abbrev pub SetsBefore : List (List ℕ) → Result Table TableError → TableError → List Stay → List Stay → Type 0
+SetsBefore codes (Ok table) e old new =
+    (counts : List Counted) × IsRefusedAfter (count_rule codes) table counts e × (new ≡ forecasts_set counts old)
+SetsBefore codes (Err refusal) e old new = (e ≡ refusal) × (new ≡ old)
 
 -- the rooms that the bookings of the stays take of a night
 abbrev pub sold_on : List Counted → List Stay → ℕ → ℕ

@@ -1,5 +1,5 @@
 -- A table is read row by row, and the first refusal is the answer.
-use Rattle.std.specs.Prelude.{ℕ, zero, suc, List, [], ◌∷◌, ◌++◌, length, slice_index_or, Option, Some, None, Result, Ok, Err}
+use Rattle.std.specs.Prelude.{◌≡◌, ◌⊎◌, ℕ, zero, suc, ◌<◌, List, [], ◌∷◌, ◌++◌, length, slice_index_or, Option, Some, None, Result, Ok, Err}
 use Rattle.bp_hotelfile.specs.Steps.{◌>>=◌}
 use Rattle.bp_stayfile.specs.declared.error.TableError.{TableError}
 use Rattle.bp_stayfile.specs.declared.error.TableError.TheVariants.{NotCsv}
@@ -16,6 +16,17 @@ module _ {A : Type 0} where
   abbrev pub unless_stopped : Option ℕ → List A → Result (List A) TableError
   unless_stopped None answers = Ok answers
   unless_stopped (Some line) answers = Err (NotCsv line)
+
+  -- why a row is not read, or why there is none more to read
+  abbrev pub stops_at : (List A → Record → Result A TableError) → Table → ℕ → List A → TableError → Type 0
+  stops_at rule table n before e =
+      ((n < length table.rows) × (rule before (slice_index_or table.rows n []) ≡ Err e)) ⊎ ((n ≡ length table.rows) × (unless_stopped table.stop before ≡ Err e))
+
+  -- a table that is refused, with what the rows before the refused record said
+  pub record IsRefusedAfter (rule : List A → Record → Result A TableError) (table : Table) (before : List A) (e : TableError) : Type 0 where
+    pub read_rows : ℕ
+    pub read : rows_read rule table.rows read_rows ≡ Ok before
+    pub stops : stops_at rule table read_rows before e
 
   -- what the rows of a table say
   abbrev pub table_read : (List A → Record → Result A TableError) → Table → Result (List A) TableError

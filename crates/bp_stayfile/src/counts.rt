@@ -1,7 +1,8 @@
 ghost use Rattle.std.specs.Prelude.{◌≡◌, ◌≢◌, ◌<◌, ◌+◌, ◌^◌, ◌≤◌, ℕ, List, [], length, slice_index_or, MatchResult, IfOk, IfErr, Ok, Err, Some, None, is_some, slice_set, true, replicate};
 ghost use Rattle.bp_stayfile.specs.declared.counts.Counted.{Counted};
-ghost use Rattle.bp_stayfile.specs.Reading.{table_read};
-ghost use Rattle.bp_stayfile.specs.Counts.{count_of, count_in, counted_in, count_rule, counts_file, AreLaidOut};
+ghost use Rattle.bp_stayfile.specs.Reading.{table_read, IsRefusedAfter};
+ghost use Rattle.bp_stayfile.specs.Tables.{table_of};
+ghost use Rattle.bp_stayfile.specs.Counts.{count_of, count_in, counted_in, count_rule, count_columns, counts_file, AreLaidOut};
 
 use crate::cells::{code_in, number_in};
 use crate::tables::{Rows, rows};
@@ -50,7 +51,7 @@ fn put(counts: &mut [Option<u64>], line: u64, counted: Counted) -> Result<(), Ta
     ensures { MatchResult result
         (λ _. (slice_index_or counts.old counted.stay None ≡ None)
         × (counts.new ≡ slice_set counts.old counted.stay (Some counted.count)))
-        (λ e. (e ≡ TableError.TwiceCode line) × (is_some (slice_index_or counts.old counted.stay None) ≡ true)) }
+        (λ e. (e ≡ TableError.TwiceCode line) × (is_some (slice_index_or counts.old counted.stay None) ≡ true) × (counts.new ≡ counts.old)) }
 {
     let stay = counted.stay as usize;
     if counts[stay].is_some() {
@@ -60,7 +61,8 @@ fn put(counts: &mut [Option<u64>], line: u64, counted: Counted) -> Result<(), Ta
     Ok(())
 }
 
-fn no_counts(alloc: Global, stays: usize) -> Result<Vec<Option<u64>>, TableError>
+/// No count for any stay.
+pub(crate) fn no_counts(alloc: Global, stays: usize) -> Result<Vec<Option<u64>>, TableError>
     ensures { MatchResult result (λ v. v.items ≡ replicate stays None) (λ e. e ≡ TableError.Memory) }
 {
     match vec![in alloc; None; stays] {
@@ -69,23 +71,35 @@ fn no_counts(alloc: Global, stays: usize) -> Result<Vec<Option<u64>>, TableError
     }
 }
 
-fn counts_under(alloc: Global, codes: &Codes, rows: &Rows) -> Result<Vec<Option<u64>>, TableError>
-    requires { rows.now.columns ≡ 2 }
-    ensures read { IfOk result (λ v. (counts : List Counted) × (table_read (count_rule codes.now) rows.now ≡ Ok counts)
-        × AreLaidOut (length codes.now) counts v.items) }
-    ensures refused { IfErr result
-        (λ e. e ≢ TableError.Memory → table_read (count_rule codes.now) rows.now ≡ Err e) }
+/// Puts the counts of the rows at their stays, and stops at the first refusal.
+pub(crate) fn put_counts(
+    codes: &Codes,
+    rows: &Rows,
+    counts: &mut [Option<u64>],
+) -> Result<(), TableError>
+    requires columns { rows.now.columns ≡ 2 }
+    requires empty { counts.old ≡ replicate (length codes.now) None }
+    ensures read { MatchResult result
+        (λ _. (named : List Counted) × (table_read (count_rule codes.now) rows.now ≡ Ok named) × AreLaidOut (length codes.now) named counts.new)
+        (λ e. (named : List Counted) × IsRefusedAfter (count_rule codes.now) rows.now named e × AreLaidOut (length codes.now) named counts.new) }
+    ensures no_memory_taken { IfErr result (λ e. e ≢ TableError.Memory) }
 {
-    let stays = codes.count() as usize;
-    let mut counts = no_counts(alloc, stays)?;
     for row in 0..rows.count() {
         let counted = counted_in(codes, rows, row)?;
-        put(&mut counts, row + 2, counted)?;
+        put(counts, row + 2, counted)?;
     }
     match rows.stop() {
         Some(line) => Err(TableError::NotCsv { line }),
-        None => Ok(counts),
+        None => Ok(()),
     }
+}
+
+/// The rows of a forecast or a bookings file.
+pub(crate) fn count_rows(alloc: Global, bytes: &[u8]) -> Result<Rows, TableError>
+    ensures read { IfOk result (λ t. (table_of count_columns bytes.now ≡ Ok t) × (t.columns ≡ 2)) }
+    ensures refused { IfErr result (λ e. e ≢ TableError.Memory → table_of count_columns bytes.now ≡ Err e) }
+{
+    rows(alloc, bytes, &COLUMNS)
 }
 
 /// The counts of a forecast or a bookings file, one place per stay.
@@ -99,6 +113,8 @@ pub(crate) fn counts_of(
     ensures refused { IfErr result
         (λ e. e ≢ TableError.Memory → counts_file codes.now bytes.now ≡ Err e) }
 {
-    let rows = rows(alloc, bytes, &COLUMNS)?;
-    counts_under(alloc, codes, &rows)
+    let rows = count_rows(alloc, bytes)?;
+    let mut counts = no_counts(alloc, codes.count() as usize)?;
+    put_counts(codes, &rows, &mut counts)?;
+    Ok(counts)
 }

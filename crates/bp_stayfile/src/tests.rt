@@ -186,49 +186,67 @@ fn four_thousand_stays_and_one_more(rt: HostRuntime) -> Result<(), Fail> {
 }
 
 #[test]
-fn forecasts_are_set_or_left(rt: HostRuntime) -> Result<(), Fail> {
+fn forecasts_are_set_up_to_the_refused_record(rt: HostRuntime) -> Result<(), Fail> {
     let hotel = hotel(rt.alloc())?;
     let (codes, mut stays) = read_stays(rt.alloc(), &hotel, STAYS.as_bytes())?;
     let text = "\u{feff}count,remark,code\r\n5,\"a, b\",P3\r\n\r\n1000000,, P1 \r\n";
     read_forecast(rt.alloc(), &codes, &mut stays, text.as_bytes())?;
     are_the_four(&rt, &codes, &stays, [0, 1_000_000, 0, 5]);
-    for (text, error) in [
+    for (text, error, forecasts) in [
         (
             "count\n",
             TableError::Column {
                 column: Column::Code,
             },
+            [0, 1_000_000, 0, 5],
         ),
         (
             "code\nP0\n",
             TableError::Column {
                 column: Column::Count,
             },
+            [0, 1_000_000, 0, 5],
         ),
-        ("code,count\nP0,3\nP 1,3\n", TableError::Code { line: 3 }),
-        ("code,count\nP0,3\nP9,x\n", TableError::NoCode { line: 3 }),
-        ("code,count\nP0,3\nP1,\n", TableError::Number { line: 3 }),
         (
-            "code,count\nP0,3\nP0,1000001\n",
+            "code,count\nP0,3\nP 1,3\n",
+            TableError::Code { line: 3 },
+            [3, 1_000_000, 0, 5],
+        ),
+        (
+            "code,count\nP0,4\nP9,x\nP1,3\n",
+            TableError::NoCode { line: 3 },
+            [4, 1_000_000, 0, 5],
+        ),
+        (
+            "code,count\nP0,5\nP1,\n",
+            TableError::Number { line: 3 },
+            [5, 1_000_000, 0, 5],
+        ),
+        (
+            "code,count\nP0,6\nP0,1000001\n",
             TableError::Limit { line: 3 },
+            [6, 1_000_000, 0, 5],
         ),
         (
-            "code,count\nP0,3\nP0,3\n",
+            "code,count\nP0,7\nP0,8\n",
             TableError::TwiceCode { line: 3 },
+            [7, 1_000_000, 0, 5],
         ),
         (
-            "code,count\nP0,3\nP1,4\n\"a,b\"\n",
+            "code,count\nP0,8\nP1,9\n\"a,b\"\n",
             TableError::NotCsv { line: 4 },
+            [8, 9, 0, 5],
         ),
     ] {
         assert_eq!(rt; stays.len(), codes.count() as usize);
         let read = read_forecast(rt.alloc(), &codes, &mut stays, text.as_bytes());
         assert_eq!(rt; read.err(), Some(error), "{text}");
+        are_the_four(&rt, &codes, &stays, forecasts);
     }
     assert_eq!(rt; stays.len(), codes.count() as usize);
     let read = read_forecast(rt.alloc(), &codes, &mut stays, b"\x1f\x8b\x08");
     assert_eq!(rt; read.err(), Some(TableError::NotCsv { line: 1 }));
-    are_the_four(&rt, &codes, &stays, [0, 1_000_000, 0, 5]);
+    are_the_four(&rt, &codes, &stays, [8, 9, 0, 5]);
     Ok(())
 }
 

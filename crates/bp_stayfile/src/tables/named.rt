@@ -67,7 +67,9 @@ fn row_at(alloc: Global, places: &[usize], raw: &ByteRecord) -> Result<StringRec
         (λ row. fields_of row ≡ row_at places.now (fields_of raw.now))
         (λ e. e ≡ TableError.Memory) }
 {
-    let mut row = StringRecord::new(alloc);
+    let mut row = StringRecord::with_capacity(alloc, raw.as_slice().len(), places.len()).map_err(
+        |_| TableError::Memory,
+    )?;
     for place in places {
         row.push_field(field_at(raw, *place))
             .map_err(|_| TableError::Memory)?;

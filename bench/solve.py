@@ -5,7 +5,9 @@
 
 The yardsticks are Debian's packages glpk-utils, coinor-clp and liblemon-dev (with g++); one that is not
 installed is left out. Each command runs on a file and is timed whole, the best of three runs, and all
-values must agree, as far as a command prints their digits. The counter of searches has no value when a program runs, so it is not shown.
+values must agree, as far as a command prints their digits. The time of the solve alone is what a yardstick
+says of itself; for bidprice it is the time of `solve` less that of `check`, which reads the same problem.
+Searches have no counter when the program runs: valgrind counts the calls, where it is installed.
 """
 import os
 import re
@@ -59,21 +61,65 @@ def value_in(pattern, text):
     return round(abs(float(found.group(1)))) if found else None
 
 
-def main():
-    if len(sys.argv) != 2:
-        sys.exit(__doc__)
-    here = os.path.dirname(os.path.abspath(__file__))
-    folder = tempfile.mkdtemp()
-    commands = [("bidprice", lambda p, m: [sys.argv[1], "solve", p], r"value (\d+)")]
+def number_in(pattern, text):
+    found = re.search(pattern, text)
+    return float(found.group(1)) if found else None
+
+
+def searches_of(command, folder):
+    """How often a run settles nodes, which it does once a search."""
+    if not shutil.which("valgrind"):
+        return None
+    counts = os.path.join(folder, "callgrind.out")
+    valgrind = ["valgrind", "--tool=callgrind", f"--callgrind-out-file={counts}"]
+    subprocess.run(valgrind + command, capture_output=True, check=True)
+    names, called, searches = {}, "", 0
+    for line in open(counts):
+        if line.startswith("cfn=") or line.startswith("fn="):
+            number, _, name = line.strip().split("=", 1)[1].partition(" ")
+            names.setdefault(number, name)
+            if line.startswith("cfn="):
+                called = names[number]
+        elif line.startswith("calls=") and "settle_until" in called:
+            searches += int(line.split("=")[1].split()[0])
+    return searches
+
+
+def own_figures(program, problem, text, taken, folder):
+    """The milliseconds of the solve alone, and the searches, of a run that wrote this certificate."""
+    certificate = os.path.join(folder, "certificate")
+    with open(certificate, "w") as out:
+        out.write(text)
+    read, _ = best_of_three([program, "check", problem, certificate])
+    return taken - read, searches_of([program, "solve", problem], folder)
+
+
+def yardsticks(here, folder):
+    """Name, words, value and milliseconds of the solve, of each that is installed."""
+    found = []
     if shutil.which("glpsol"):
-        commands.append(("glpsol", lambda p, m: ["glpsol", "--mps", m, "-o", "/dev/stdout"], r"Objective:\s+COST = (\S+)"))
+        found.append(("glpsol", lambda p, m: ["glpsol", "--mps", m, "-o", "/dev/stdout"], r"Objective:\s+COST = (\S+)", None))
     if shutil.which("clp"):
-        commands.append(("clp", lambda p, m: ["clp", m], r"[Oo]bjective (?:value )?(-?[0-9][0-9.e+]*)"))
+        found.append(("clp", lambda p, m: ["clp", m], r"[Oo]bjective (?:value )?(-?[0-9][0-9.e+]*)", None))
     if shutil.which("g++") and os.path.exists("/usr/include/lemon/network_simplex.h"):
         lemon = os.path.join(folder, "lemon")
         subprocess.run(["g++", "-O2", "-o", lemon, os.path.join(here, "lemon.cpp")], check=True)
-        commands.append(("lemon", lambda p, m: [lemon, p], r"value (\d+)"))
-    print(f"{'problem':<20}{'command':<12}{'whole ms':>12}{'value':>20}")
+        found.append(("lemon", lambda p, m: [lemon, p], r"value (\d+)", r"solve_ms (\S+)"))
+    return found
+
+
+def shown(number, form):
+    return "-" if number is None else format(number, form)
+
+
+def main():
+    if len(sys.argv) != 2:
+        sys.exit(__doc__)
+    program = sys.argv[1]
+    here = os.path.dirname(os.path.abspath(__file__))
+    folder = tempfile.mkdtemp()
+    commands = [("bidprice", lambda p, m: [program, "solve", p], r"value (\d+)", None)] + yardsticks(here, folder)
+    print(f"{'problem':<18}{'command':<10}{'whole ms':>10}{'solve ms':>10}{'searches':>10}{'value':>14}")
     agree = True
     for size in SIZES:
         rooms, rows = generate(*size)
@@ -83,11 +129,14 @@ def main():
         with open(mps, "w") as out:
             out.write(mps_text(rooms, rows))
         values = set()
-        for name, command, pattern in commands:
+        for name, command, pattern, alone in commands:
             taken, text = best_of_three(command(problem, mps))
             value = value_in(pattern, text)
             values.add(value)
-            print(f"{' '.join(map(str, size)):<20}{name:<12}{taken:>12.1f}{value:>20}")
+            solve, searches = number_in(alone, text) if alone else None, None
+            if name == "bidprice":
+                solve, searches = own_figures(program, problem, text, taken, folder)
+            print(f"{' '.join(map(str, size)):<18}{name:<10}{taken:>10.1f}{shown(solve, '.1f'):>10}{shown(searches, 'd'):>10}{value:>14}")
         agree = agree and None not in values and max(values) - min(values) <= max(values) // 100000
     shutil.rmtree(folder)
     sys.exit(0 if agree else "the values differ")

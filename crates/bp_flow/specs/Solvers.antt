@@ -1,5 +1,5 @@
 -- What a solver keeps between calls, and what its calls change.
-use Rattle.std.specs.Prelude.{◌≡◌, ℕ, ◌+◌, ◌-◌, ◌≤◌, ◌<◌, length, slice_index, slice_set}
+use Rattle.std.specs.Prelude.{◌≡◌, ℕ, ◌+◌, ◌-◌, ◌≤◌, ◌<◌, List, length, slice_index, slice_set}
 use Rattle.bp_types.specs.Program.{Program, stay_at}
 use Rattle.bp_types.specs.Changes.{with_forecast}
 use Rattle.bp_flow.specs.Settled.{IsSettled}
@@ -17,13 +17,20 @@ pub record IsSolverOf (program : Program) (p : Priced) : Type 0 where
   pub settled : IsSettled p
   pub solves : p.flow.program ≡ program
 
--- the rooms of the nights below a night are the program's, and the others 0
+-- the rooms of the nights below a night are the program's, and no other night has more than there
 pub record ColdSoFar (program : Program) (night : ℕ) (p : Priced) : Type 0 where
   pub solved : IsSolved p
   pub stays : p.flow.program.stays ≡ program.stays
   pub each : length p.flow.program.rooms ≡ length program.rooms
   pub done : (n : ℕ) → n < night → slice_index p.flow.program.rooms n ≡ slice_index program.rooms n
-  pub left : (n : ℕ) → night ≤ n → slice_index p.flow.program.rooms n ≡ 0
+  pub no_more : (n : ℕ) → n < length program.rooms → slice_index p.flow.program.rooms n ≤ slice_index program.rooms n
+
+-- each night from one up to another lacks so many of the program's rooms, or more
+pub record IsGap (program : Program) (rooms : List ℕ) (from to units : ℕ) : Type 0 where
+  pub some_night : from < to
+  pub in_range : to ≤ length program.rooms
+  pub some_units : 1 ≤ units
+  pub each : (n : ℕ) → from ≤ n → n < to → slice_index rooms n + units ≤ slice_index program.rooms n
 
 -- one stay has another forecast and another sold number, and nothing else changed
 pub record SetsDemand (old new : Priced) (stay forecast units : ℕ) : Type 0 where

@@ -6,6 +6,7 @@
 #![tactic(auto)]
 
 mod demand;
+mod gap;
 mod moves;
 mod rooms;
 mod settling;

@@ -9,6 +9,7 @@ ghost use Rattle.bp_flow.specs.Solvers.{ColdSoFar, IsSolved, IsSolverOf, CountsU
 ghost use Rattle.bp_flow.specs.Settled.{IsSettled, IsSolvable};
 
 use crate::demand::reforecast;
+use crate::gap::{Gap, gap_at};
 use crate::moves::shift;
 use crate::rooms::{add_rooms, take_rooms};
 use crate::settling::settle_flow;
@@ -53,11 +54,7 @@ impl Solver {
     {
         let mut solver = Solver::empty(alloc, instance)?;
         for night in 0..instance.nights() {
-            let span = Span {
-                from: night,
-                to: night + 1,
-            };
-            solver.raise(span, instance.rooms(night), steps);
+            solver.fill(instance, night, steps);
         }
         solver.settle(steps);
         Ok(solver)
@@ -72,6 +69,19 @@ impl Solver {
         let scratch = Scratch::new(alloc, nodes, flow.arcs())?;
         let _nights = flow.nights();
         Ok(Solver { flow, scratch })
+    }
+
+    /// Raises the rooms of a night to those of the instance, together with nights behind it that lack some too:
+    /// units that cross many nights at once take fewer searches than night by night.
+    fn fill<L: Ledger>(&mut self, instance: &Instance, night: u32, steps: &mut Steps<L>)
+        requires so_far { ColdSoFar instance.now night self.old }
+        requires in_range { night < length instance.now.rooms }
+        ensures { ColdSoFar instance.now (night + 1) self.new }
+    {
+        while self.rooms(night) < instance.rooms(night) {
+            let Gap { to, units } = gap_at(self, instance, night);
+            self.raise(Span { from: night, to }, units, steps);
+        }
     }
 
     /// A copy, which goes its own way from here on.

@@ -2,10 +2,15 @@ use crate::tables::{is_code, number_of, rows};
 use crate::{Codes, Column, TableError, read_bookings, read_forecast, read_stays};
 use bp_hotelfile::{Hotel, HotelError, read_hotel};
 use bp_types::{Span, Stay};
-use std::alloc::Global;
+use std::alloc::{AllocError, Global};
 use std::process::Abort;
 use std::test::Fail;
 
+const STAYS_HEADER: &str = "code,arrival,nights,rate\n";
+
+const COUNTS_HEADER: &str = "code,count\n";
+
+/// Four stays in a hotel of three nights.
 const STAYS: &str =
     "code,arrival,nights,rate\nP0,2025-07-01,2,100\nP1,2025-07-02,2,150\nP2,2025-07-01,1,60\nP3,2025-07-03,1,40\n";
 
@@ -13,6 +18,13 @@ fn hotel(alloc: Global) -> Result<Hotel, HotelError> {
     let text = "name = \"A\"\nfirst_night = \"2025-07-01\"\nnights = 3\nrooms = 2\n\
         [[night]]\ndate = \"2025-07-02\"\nrooms = 1\n";
     read_hotel(alloc, text.as_bytes())
+}
+
+/// A header with records behind it.
+fn table(alloc: Global, header: &str, records: &str) -> Result<String, AllocError> {
+    let mut text = String::from_str(alloc, header)?;
+    text.push_str(records)?;
+    Ok(text)
 }
 
 fn stay(from: u32, to: u32, rate: u64, forecast: u64) -> Stay {
@@ -45,9 +57,10 @@ fn four_stays_as_a_spreadsheet_writes_them(rt: HostRuntime) -> Result<(), Fail> 
     let hotel = hotel(rt.alloc())?;
     for text in [
         STAYS,
+        "\u{feff}rate,code,nights,arrival,town\r\n0100,P0,2,2025-07-01,\r\n0150,P1,2,2025-07-02,\r\n60,P2,1,2025-07-01,\r\n40,P3,1,2025-07-03,\r\n",
         "\u{feff}rate,code,town,nights,arrival\r\n0100,P0,\"Ulm, old\r\ntown\",02,2025-07-01\r\n\
             0150,P1,,2,2025-07-02\r\n\r\n60,P2,x,1,2025-07-01\r\n40,\" P3 \",x,1, 2025-07-03",
-        "code,arrival,nights,rate,code\nP0,2025-07-01,2,100,X\nP1,2025-07-02,2,150,X\nP2,2025-07-01,1,60,X\nP3,2025-07-03,1,40,X\n",
+        "code,arrival,nights, rate ,\"code \"\nP0,2025-07-01,2,100,X\nP1,2025-07-02,2,150,X\nP2,2025-07-01,1,60,X\nP3,2025-07-03,1,40,X\n",
     ] {
         let (codes, stays) = read_stays(rt.alloc(), &hotel, text.as_bytes())?;
         are_the_four(&rt, &codes, &stays, [0, 0, 0, 0]);
@@ -58,85 +71,63 @@ fn four_stays_as_a_spreadsheet_writes_them(rt: HostRuntime) -> Result<(), Fail> 
 #[test]
 fn stays_are_refused_at_their_first_place(rt: HostRuntime) -> Result<(), Fail> {
     let hotel = hotel(rt.alloc())?;
-    let cases = [
+    for (text, column) in [
+        ("", Column::Code),
+        ("\u{feff}\r\n\n", Column::Code),
+        ("\u{feff}\u{feff}code,arrival,nights,rate\n", Column::Code),
+        ("Code,nights\nx\n", Column::Code),
+        ("rate,nights,code\n", Column::Arrival),
+        ("code,arrival,rate\n", Column::Nights),
+        ("code,arrival,nights,ra te\n", Column::Rate),
+    ] {
+        let read = read_stays(rt.alloc(), &hotel, text.as_bytes());
+        assert_eq!(rt; read.err(), Some(TableError::Column { column }), "{text}");
+    }
+    for (records, error) in [
+        ("P0,2025-07-01,2\n", TableError::NotCsv { line: 2 }),
+        ("P 0,2025-07-01,2,1,\n", TableError::NotCsv { line: 2 }),
+        ("P 0,x,y,z\n", TableError::Code { line: 2 }),
+        ("\"\",x,y,z\n", TableError::Code { line: 2 }),
+        ("abcdefghijklmnopq,x,y,z\n", TableError::Code { line: 2 }),
+        ("P0,2025-07-32,y,z\n", TableError::Date { line: 2 }),
+        ("P0,2025-08-01,-1,1\n", TableError::Number { line: 2 }),
+        ("P0,2025-08-01,0,89.00\n", TableError::Number { line: 2 }),
         (
-            "",
-            TableError::Column {
-                column: Column::Code,
-            },
-        ),
-        (
-            "\u{feff}\u{feff}code,arrival,nights,rate\n",
-            TableError::Column {
-                column: Column::Code,
-            },
-        ),
-        (
-            "code,nights,rate\n",
-            TableError::Column {
-                column: Column::Arrival,
-            },
-        ),
-        (
-            "code,arrival,nights,rate\nP0,2025-07-01,2\n",
-            TableError::NotCsv { line: 2 },
-        ),
-        (
-            "code,arrival,nights,rate\nP 0,2025-07-01,2\n",
-            TableError::NotCsv { line: 2 },
-        ),
-        (
-            "code,arrival,nights,rate\nP 0,x,y,z\n",
-            TableError::Code { line: 2 },
-        ),
-        (
-            "code,arrival,nights,rate\nabcdefghijklmnopq,2025-07-01,2,1\n",
-            TableError::Code { line: 2 },
-        ),
-        (
-            "code,arrival,nights,rate\nP0,2025-07-32,y,z\n",
-            TableError::Date { line: 2 },
-        ),
-        (
-            "code,arrival,nights,rate\nP0,2025-08-01,-1,1\n",
+            "P0,2025-08-01,1,0000000000000000001\n",
             TableError::Number { line: 2 },
         ),
+        ("P0,2025-08-01,0,1\n", TableError::Limit { line: 2 }),
+        ("P0,2025-07-01,1,0\n", TableError::Limit { line: 2 }),
         (
-            "code,arrival,nights,rate\nP0,2025-08-01,1,1000000000000000000\n",
-            TableError::Number { line: 2 },
-        ),
-        (
-            "code,arrival,nights,rate\nP0,2025-08-01,0,1\n",
+            "P0,2025-07-01,1,1000000001\n",
             TableError::Limit { line: 2 },
         ),
+        ("P0,2025-06-30,1,1\n", TableError::Outside { line: 2 }),
+        ("P0,2025-07-02,3,1\n", TableError::Outside { line: 2 }),
         (
-            "code,arrival,nights,rate\nP0,2025-07-01,1,0\n",
-            TableError::Limit { line: 2 },
-        ),
-        (
-            "code,arrival,nights,rate\nP0,2025-07-01,1,1000000001\n",
-            TableError::Limit { line: 2 },
-        ),
-        (
-            "code,arrival,nights,rate\nP0,2025-06-30,1,1\n",
+            "P0,2025-07-02,999999999999999999,1\n",
             TableError::Outside { line: 2 },
         ),
         (
-            "code,arrival,nights,rate\nP0,2025-07-02,3,1000000000\n",
-            TableError::Outside { line: 2 },
-        ),
-        (
-            "code,arrival,nights,rate\nP0,2025-07-01,1,1\nP0,2025-07-01,1,0\n",
+            "P0,2025-07-01,1,1\nP0,2025-07-01,1,0\n",
             TableError::Limit { line: 3 },
         ),
         (
-            "code,arrival,nights,rate\nP0,2025-07-01,3,1\nP0,2025-07-01,1,1\nx\n",
+            "P0,2025-07-01,1,1\nP0,2025-07-04,1,1\n",
+            TableError::Outside { line: 3 },
+        ),
+        (
+            "P0,2025-07-01,3,1\nP0,2025-07-01,1,1\nx\n",
             TableError::TwiceCode { line: 3 },
         ),
-    ];
-    for (text, error) in cases {
+        (
+            "P0,2025-07-01,2,100\r\n\r\nP1,2025-07-02,2,150\r\n\nP2,2025-07-01,1,60\r\nP3,2025-07-03,2,40\r\n",
+            TableError::Outside { line: 5 },
+        ),
+    ] {
+        let text = table(rt.alloc(), STAYS_HEADER, records)?;
         let read = read_stays(rt.alloc(), &hotel, text.as_bytes());
-        assert_eq!(rt; read.err(), Some(error), "{text}");
+        assert_eq!(rt; read.err(), Some(error), "{records}");
     }
     Ok(())
 }
@@ -146,10 +137,10 @@ fn fields_that_are_no_text(rt: HostRuntime) -> Result<(), Fail> {
     let hotel = hotel(rt.alloc())?;
     for (bytes, line) in [
         (b"\x1f\x8b\x08".as_slice(), 1),
-        (b"code,\xff,arrival,nights,rate\n".as_slice(), 1),
+        (b"code,\xff,arrival,nights\n".as_slice(), 1),
         (
-            b"code,arrival,nights,rate,x\nP0,2025-07-01,1,1,\xc3\n".as_slice(),
-            2,
+            b"code,arrival,nights,rate,x\nP0,2025-07-01,1,1,\"a,\n\nb\"\nP1,2025-07-01,1,1,\xc3\n".as_slice(),
+            3,
         ),
     ] {
         let read = read_stays(rt.alloc(), &hotel, bytes);
@@ -159,25 +150,63 @@ fn fields_that_are_no_text(rt: HostRuntime) -> Result<(), Fail> {
 }
 
 #[test]
+fn stays_at_their_limits(rt: HostRuntime) -> Result<(), Fail> {
+    let hotel = hotel(rt.alloc())?;
+    let records =
+        "0123456789abcdef,2025-07-03,000000000000000001,1000000000\nA-b_9.,2025-07-01,3,1";
+    let text = table(rt.alloc(), STAYS_HEADER, records)?;
+    let (codes, stays) = read_stays(rt.alloc(), &hotel, text.as_bytes())?;
+    let expected = [stay(2, 3, 1_000_000_000, 0), stay(0, 3, 1, 0)];
+    assert_eq!(rt; stays.as_slice(), expected.as_slice());
+    assert_eq!(rt; codes.find("A-b_9."), Some(1));
+    Ok(())
+}
+
+/// A stays file of so many stays of one night.
+fn stays_of_a_night(alloc: Global, stays: u32) -> Result<String, AllocError> {
+    let mut text = String::from_str(alloc, STAYS_HEADER)?;
+    for stay in 0..stays {
+        let record = format!(in alloc; "S{stay},2025-07-01,1,1\n")?;
+        text.push_str(record.as_str())?;
+    }
+    Ok(text)
+}
+
+#[test]
+fn four_thousand_stays_and_one_more(rt: HostRuntime) -> Result<(), Fail> {
+    let hotel = hotel(rt.alloc())?;
+    let mut text = stays_of_a_night(rt.alloc(), 4000)?;
+    let (codes, stays) = read_stays(rt.alloc(), &hotel, text.as_bytes())?;
+    assert_eq!(rt; stays.len(), 4000);
+    assert_eq!(rt; codes.find("S3999"), Some(3999));
+    text.push_str("S0,2025-07-01,3,1\n")?;
+    let read = read_stays(rt.alloc(), &hotel, text.as_bytes());
+    assert_eq!(rt; read.err(), Some(TableError::Limit { line: 4002 }));
+    Ok(())
+}
+
+#[test]
 fn forecasts_are_set_or_left(rt: HostRuntime) -> Result<(), Fail> {
     let hotel = hotel(rt.alloc())?;
     let (codes, mut stays) = read_stays(rt.alloc(), &hotel, STAYS.as_bytes())?;
-    read_forecast(
-        rt.alloc(),
-        &codes,
-        &mut stays,
-        b"count,code\n5,P3\n1000000,P1\n",
-    )?;
+    let text = "\u{feff}count,remark,code\r\n5,\"a, b\",P3\r\n\r\n1000000,, P1 \r\n";
+    read_forecast(rt.alloc(), &codes, &mut stays, text.as_bytes())?;
     are_the_four(&rt, &codes, &stays, [0, 1_000_000, 0, 5]);
-    let cases = [
+    for (text, error) in [
         (
-            "code\n",
+            "count\n",
+            TableError::Column {
+                column: Column::Code,
+            },
+        ),
+        (
+            "code\nP0\n",
             TableError::Column {
                 column: Column::Count,
             },
         ),
         ("code,count\nP0,3\nP 1,3\n", TableError::Code { line: 3 }),
-        ("code,count\nP0,3\nP9,3\n", TableError::NoCode { line: 3 }),
+        ("code,count\nP0,3\nP9,x\n", TableError::NoCode { line: 3 }),
         ("code,count\nP0,3\nP1,\n", TableError::Number { line: 3 }),
         (
             "code,count\nP0,3\nP0,1000001\n",
@@ -191,12 +220,14 @@ fn forecasts_are_set_or_left(rt: HostRuntime) -> Result<(), Fail> {
             "code,count\nP0,3\nP1,4\n\"a,b\"\n",
             TableError::NotCsv { line: 4 },
         ),
-    ];
-    for (text, error) in cases {
+    ] {
         assert_eq!(rt; stays.len(), codes.count() as usize);
         let read = read_forecast(rt.alloc(), &codes, &mut stays, text.as_bytes());
         assert_eq!(rt; read.err(), Some(error), "{text}");
     }
+    assert_eq!(rt; stays.len(), codes.count() as usize);
+    let read = read_forecast(rt.alloc(), &codes, &mut stays, b"\x1f\x8b\x08");
+    assert_eq!(rt; read.err(), Some(TableError::NotCsv { line: 1 }));
     are_the_four(&rt, &codes, &stays, [0, 1_000_000, 0, 5]);
     Ok(())
 }
@@ -205,41 +236,27 @@ fn forecasts_are_set_or_left(rt: HostRuntime) -> Result<(), Fail> {
 fn bookings_take_rooms(rt: HostRuntime) -> Result<(), Fail> {
     let hotel = hotel(rt.alloc())?;
     let (codes, stays) = read_stays(rt.alloc(), &hotel, STAYS.as_bytes())?;
-    let cases = [
-        ("code,count\n", Ok([0, 0, 0])),
-        ("code,count\nP0,1\nP2,1\nP3,2\n", Ok([2, 1, 2])),
-        (
-            "code,count\nP0,2\n",
-            Err(TableError::Overbooked { night: 1 }),
-        ),
-        (
-            "code,count\nP3,1\nP1,2\n",
-            Err(TableError::Overbooked { night: 1 }),
-        ),
-        (
-            "code,count\nP2,1000000\n",
-            Err(TableError::Overbooked { night: 0 }),
-        ),
-        (
-            "code,count\nP2,1000001\n",
-            Err(TableError::Limit { line: 2 }),
-        ),
-        (
-            "code,count\nP0,9\nP0,1\n",
-            Err(TableError::TwiceCode { line: 3 }),
-        ),
-    ];
-    for (text, expected) in cases {
-        match read_bookings(rt.alloc(), &hotel, &codes, &stays, text.as_bytes()) {
-            Ok(sold) => {
-                let Ok(rooms) = expected else {
-                    return Err(Fail::from("taken"));
-                };
-                assert_eq!(rt; sold.as_slice(), rooms.as_slice(), "{text}");
-            }
-            Err(error) => assert_eq!(rt; expected, Err(error), "{text}"),
-        }
+    for (records, rooms) in [("", [0, 0, 0]), ("P0,1\r\nP2,1\r\nP3,2\r\nP1,0", [2, 1, 2])] {
+        let text = table(rt.alloc(), COUNTS_HEADER, records)?;
+        let sold = read_bookings(rt.alloc(), &hotel, &codes, &stays, text.as_bytes())?;
+        assert_eq!(rt; sold.as_slice(), rooms.as_slice(), "{records}");
     }
+    for (records, error) in [
+        ("P0,2\n", TableError::Overbooked { night: 1 }),
+        ("P3,3\nP1,2\n", TableError::Overbooked { night: 1 }),
+        ("P2,1000000\n", TableError::Overbooked { night: 0 }),
+        ("P2,1000001\n", TableError::Limit { line: 2 }),
+        ("P0,9\nP0,1\n", TableError::TwiceCode { line: 3 }),
+        ("P0,9\nP4,1\n", TableError::NoCode { line: 3 }),
+        ("P0,9\nP1,1.0\n", TableError::Number { line: 3 }),
+        ("P0,9\nP-1,,\n", TableError::NotCsv { line: 3 }),
+    ] {
+        let text = table(rt.alloc(), COUNTS_HEADER, records)?;
+        let read = read_bookings(rt.alloc(), &hotel, &codes, &stays, text.as_bytes());
+        assert_eq!(rt; read.err(), Some(error), "{records}");
+    }
+    let read = read_bookings(rt.alloc(), &hotel, &codes, &stays, b"\x1f\x8b\x08");
+    assert_eq!(rt; read.err(), Some(TableError::NotCsv { line: 1 }));
     Ok(())
 }
 

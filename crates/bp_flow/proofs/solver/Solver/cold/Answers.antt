@@ -1,21 +1,9 @@
-use Rattle.std.proofs.Common.{◌≡◌, ℕ, ◌<◌, subst, length, arith}
+use Rattle.std.proofs.Common.{◌≡◌, ℕ, subst, length, arith}
 use Rattle.bp_types.specs.Program.{Program}
 use Rattle.bp_flow.specs.Settled.{IsSolvable}
 use Rattle.bp_flow.specs.Solvers.{ColdSoFar}
-use Rattle.bp_flow.proofs.Cold.{cold_more, cold_all}
+use Rattle.bp_flow.proofs.Cold.{cold_all}
 use Rattle.bp_flow.proofs.solver.Solver.cold.Goals as goal
-
-pub raise-requires : goal.raise-requires
-raise-requires g c =
-    let night = c.loop-night.night in
-    let in_range : night < length c.args.instance.now.rooms = omega (arith, c.nights-night-end.ensures.value, c.loop-night-test.true) in (
-      (omega arith, omega (arith, c.loop-night.invariant.each)),
-      λ n above below. omega (arith, c.loop-night.invariant.left n above, c.rooms.ensures, c.nights-night-end.ensures.limits.rooms night 0 in_range),
-    )
-
-pub loop-night-preserved : goal.loop-night-preserved
-loop-night-preserved g c =
-    cold_more c.args.instance.now c.loop-night.solver c.raise.new.self c.loop-night.night c.rooms.result c.loop-night.invariant (omega (arith, c.nights-night-end.ensures.value, c.loop-night-test.true)) c.rooms.ensures c.raise.ensures.program c.raise.ensures.solved
 
 pub returns-clause-solver : goal.returns-clause-solver
 returns-clause-solver g c =

@@ -1,0 +1,219 @@
+#!/usr/bin/env bash
+# Builds the program `house` for the scripts of this folder: bench/build_house.sh FOLDER, then FOLDER/house.
+#
+# It copies this repository's crates into the folder, adds a small program there that reads the four files of a hotel,
+# and proves and builds it. It wants rt, and takes a few minutes, most of them for proofs.
+set -eu
+here="$(cd "$(dirname "${BASH_SOURCE[0]}")" && pwd)"
+top="$(dirname "$here")"
+work="$1"
+crate="$work/crates/house"
+
+mkdir -p "$crate/src" "$crate/data" "$crate/proofs/tables_of"
+cp "$top/HANDLES" "$work/"
+cp "$top"/examples/lindenhof/* "$crate/data/"
+for name in bp_types bp_hotelfile bp_stayfile; do
+    cp -r "$top/crates/$name" "$work/crates/"
+    rm -rf "$work/crates/$name/out" "$work/crates/$name/must-fail"
+    grep "^$name:" "$top/crates.txt" >> "$work/crates.txt"
+done
+echo 'house: bp_types bp_hotelfile bp_stayfile' >> "$work/crates.txt"
+
+cat > "$crate/src/main.rt" <<'RATTLE'
+// Reads the four files of a hotel and prints what they say: house HOTEL STAYS FORECAST BOOKINGS
+// With a fifth word, a number: the fewest nanoseconds that the three tables took in so many readings.
+#![tactic(auto)]
+
+use bp_hotelfile::{Hotel, HotelError, read_hotel};
+use bp_stayfile::{Codes, TableError, read_bookings, read_forecast, read_stays};
+use bp_types::Stay;
+use std::alloc::Global;
+use std::env::Env;
+use std::process::ExitCode;
+use std::rt::Files;
+use std::time::{Clock, Instant};
+use std::{env, fs, io};
+
+// Why there is nothing to print.
+#[derive(Drop)]
+enum Stop {
+    Memory,
+    Hotel(HotelError),
+    Table(TableError),
+    Words,
+    Failed,
+}
+
+impl From<HotelError> for Stop {
+    fn from(error: HotelError) -> Stop {
+        match error {
+            HotelError::Memory => Stop::Memory,
+            error => Stop::Hotel(error),
+        }
+    }
+}
+
+impl From<TableError> for Stop {
+    fn from(error: TableError) -> Stop {
+        match error {
+            TableError::Memory => Stop::Memory,
+            error => Stop::Table(error),
+        }
+    }
+}
+
+impl From<io::Error> for Stop {
+    fn from(error: io::Error) -> Stop {
+        if error.kind() == io::ErrorKind::OutOfMemory {
+            Stop::Memory
+        } else {
+            Stop::Failed
+        }
+    }
+}
+
+// The bytes of the three tables.
+#[derive(Drop)]
+struct Texts {
+    stays: Vec<u8>,
+    forecast: Vec<u8>,
+    bookings: Vec<u8>,
+}
+
+#[derive(Drop)]
+struct Tables {
+    codes: Codes,
+    stays: Vec<Stay>,
+    sold: Vec<u64>,
+}
+
+fn tables_of(alloc: Global, hotel: &Hotel, texts: &Texts) -> Result<Tables, TableError> {
+    let (codes, mut stays) = read_stays(alloc, hotel, &texts.stays)?;
+    read_forecast(alloc, &codes, &mut stays, &texts.forecast)?;
+    let sold = read_bookings(alloc, hotel, &codes, &stays, &texts.bookings)?;
+    Ok(Tables { codes, stays, sold })
+}
+
+// The fewest nanoseconds of so many readings of the tables.
+fn fastest<R: Clock + AllocGlobal>(
+    rt: &R,
+    hotel: &Hotel,
+    texts: &Texts,
+    times: u32,
+) -> Result<u128, Stop> {
+    let mut fewest = u128::MAX;
+    for _ in 0..times {
+        let start = Instant::now(rt)?;
+        let tables = tables_of(rt.alloc(), hotel, texts)?;
+        let taken = start.elapsed(rt)?.as_nanos();
+        fewest = fewest.min(taken);
+        drop(tables);
+    }
+    Ok(fewest)
+}
+
+fn print_hotel<R: Print>(rt: &R, hotel: &Hotel) -> Result<(), io::Error> {
+    let limits = hotel.limits();
+    println!(rt;
+        "limits {} {} {} {}",
+        limits.stale_after, limits.entries, limits.publications, limits.unit
+    )?;
+    for night in 0..hotel.nights() {
+        println!(rt; "rooms {}", hotel.rooms(night))?;
+    }
+    Ok(())
+}
+
+fn print_tables<R: Print>(rt: &R, tables: &Tables) -> Result<(), io::Error> {
+    for stay in 0..tables.codes.count() {
+        if (stay as usize) < tables.stays.len() {
+            let Stay {
+                span,
+                rate,
+                forecast,
+            } = tables.stays[stay as usize];
+            println!(rt;
+                "stay {} {} {} {rate} {forecast}",
+                tables.codes.code(stay),
+                span.from,
+                span.to
+            )?;
+        }
+    }
+    for sold in &tables.sold {
+        println!(rt; "sold {sold}")?;
+    }
+    Ok(())
+}
+
+fn run<R: Files + Clock + Print + AllocGlobal>(rt: &R, words: &[String]) -> Result<(), Stop> {
+    let [hotel, stays, forecast, bookings, rest @ ..] = words else {
+        return Err(Stop::Words);
+    };
+    let hotel = read_hotel(rt.alloc(), &fs::read(rt, hotel.as_str())?)?;
+    let texts = Texts {
+        stays: fs::read(rt, stays.as_str())?,
+        forecast: fs::read(rt, forecast.as_str())?,
+        bookings: fs::read(rt, bookings.as_str())?,
+    };
+    match rest {
+        [] => {
+            let tables = tables_of(rt.alloc(), &hotel, &texts)?;
+            print_hotel(rt, &hotel)?;
+            print_tables(rt, &tables)?;
+        }
+        [times, ..] => {
+            let Ok(times) = times.parse::<u32>() else {
+                return Err(Stop::Words);
+            };
+            println!(rt; "{}", fastest(rt, &hotel, &texts, times)?)?;
+        }
+    }
+    Ok(())
+}
+
+fn words<R: Env + AllocGlobal>(rt: &R) -> io::Result<Vec<String>> {
+    let mut words = Vec::new(rt.alloc());
+    for word in env::args(rt)?.skip(1) {
+        words.push(word)?;
+    }
+    Ok(words)
+}
+
+fn ended<R: Files + Clock + Print + Env + AllocGlobal>(rt: &R) -> Result<(), Stop> {
+    run(rt, &words(rt)?)
+}
+
+fn main(rt: HostRuntime) -> ExitCode {
+    match ended(&rt) {
+        Ok(()) => ExitCode::from(0),
+        Err(Stop::Memory) => ExitCode::from(6),
+        Err(Stop::Hotel(error)) => {
+            let _said = println!(rt; "refused {error}");
+            ExitCode::from(3)
+        }
+        Err(Stop::Table(error)) => {
+            let _said = println!(rt; "refused {error}");
+            ExitCode::from(3)
+        }
+        Err(Stop::Words) => ExitCode::from(2),
+        Err(Stop::Failed) => ExitCode::from(4),
+    }
+}
+RATTLE
+
+cat > "$crate/proofs/tables_of/Answers.antt" <<'ANTT'
+use Rattle.std.proofs.Common.{length}
+use Rattle.house.proofs.tables_of.Goals as goal
+
+pub read_bookings-requires-clause-spans : goal.read_bookings-requires-clause-spans
+read_bookings-requires-clause-spans c =
+    rw c.deref-3.ensures.value ((c.read_forecast.ensures.limits (length c.args.hotel.now.rooms) c.in_ok-codes.ensures.limits).spans)
+ANTT
+
+if ! (cd "$crate" && rt run -- data/hotel.toml data/stays.csv data/forecast.csv data/bookings.csv) > "$work/log" 2>&1; then
+    tail -n 20 "$work/log"
+    echo "the program was not proved or built"
+    exit 1
+fi
+mv "$crate/out/house" "$work/house"

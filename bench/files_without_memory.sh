@@ -1,0 +1,50 @@
+#!/usr/bin/env bash
+# Refuses the readers of a hotel's files each of their allocations in turn. It wants rt and gcc.
+#
+# A small program reads the four files of examples/lindenhof, and files that are refused. With one allocation refused it
+# must end with status 6 and print nothing, or with its own status and its own whole answer.
+set -u
+here="$(cd "$(dirname "${BASH_SOURCE[0]}")" && pwd)"
+files="$(dirname "$here")/examples/lindenhof"
+work="$(mktemp -d)"
+trap 'rm -rf "$work"' EXIT
+
+"$here/build_house.sh" "$work" || exit 1
+gcc -O2 -shared -fPIC -o "$work/refuse.so" "$here/refuse.c" -ldl || exit 1
+
+# Reads these files with each allocation refused in turn, until there is none more to refuse.
+refuse_each() {
+    local answer status said ended nth=0
+    answer="$("$work/house" "$@")"
+    status=$?
+    while :; do
+        nth=$((nth + 1))
+        said="$(REFUSE=$nth LD_PRELOAD="$work/refuse.so" "$work/house" "$@" 2> "$work/refused")"
+        ended=$?
+        if [ "$ended" -eq 6 ] && [ -z "$said" ] && [ -s "$work/refused" ]; then
+            continue
+        elif [ "$ended" -ne "$status" ] || [ "$said" != "$answer" ]; then
+            printf '%s\nallocation %s was refused, and the program ended with status %s\n' "$said" "$nth" "$ended"
+            exit 1
+        elif [ ! -s "$work/refused" ]; then
+            break
+        fi
+    done
+    echo "status $status: each of $((nth - 1)) allocations was refused in turn"
+}
+
+hotel="$files/hotel.toml"
+stays="$files/stays.csv"
+forecast="$files/forecast.csv"
+bookings="$files/bookings.csv"
+{ cat "$hotel"; printf '\n[[night]]\ndate = "2025-07-16"\nrooms = 1\n'; } > "$work/hotel.toml"
+{ cat "$stays"; printf 'JUL01-1,2025-07-02,1,8900,\n'; } > "$work/stays.csv"
+{ cat "$forecast"; printf 'JUL99-1,3\n'; } > "$work/forecast.csv"
+{ cat "$bookings"; printf 'JUL14-2,25\n'; } > "$work/bookings.csv"
+
+refuse_each "$hotel" "$stays" "$forecast" "$bookings"
+refuse_each "$hotel" "$files/stays-from-a-spreadsheet.csv" "$forecast" "$bookings"
+refuse_each "$work/hotel.toml" "$stays" "$forecast" "$bookings"
+refuse_each "$hotel" "$work/stays.csv" "$forecast" "$bookings"
+refuse_each "$hotel" "$stays" "$work/forecast.csv" "$bookings"
+refuse_each "$hotel" "$stays" "$forecast" "$work/bookings.csv"

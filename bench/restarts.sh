@@ -4,7 +4,8 @@
 #
 # It copies the solver's crates into a temporary folder, adds a small program there, proves and builds it, and runs
 # it. A booking is one room less on each night of a stay and one less in its forecast, with the prices settled; a
-# change is another rate of one stay. It fails where a booking takes more than a twentieth of a cold solve.
+# change is another rate of one stay. It fails where a booking takes more than a twentieth of a cold solve. LEMON's
+# network simplex afresh (Debian's liblemon-dev, with g++) and the count of searches (valgrind) are shown where they are.
 set -eu
 here="$(cd "$(dirname "${BASH_SOURCE[0]}")" && pwd)"
 top="$(dirname "$here")"
@@ -225,15 +226,39 @@ if ! (cd "$work/crates/restart_bench" && rt run) > "$work/log" 2>&1; then
     exit 1
 fi
 
+program="$work/crates/restart_bench/out/restart_bench"
+rounds=100
+
 # The median of five runs of each time.
-runs="$(for _ in 1 2 3 4 5; do "$work/crates/restart_bench/out/restart_bench"; done)"
+runs="$(for _ in 1 2 3 4 5; do "$program"; done)"
 median() { cut -d ' ' -f "$1" <<< "$runs" | sort -n | sed -n 3p; }
+
+# LEMON's network simplex on the same problem, in nanoseconds, where it is installed.
+lemon=
+if [ -e /usr/include/lemon/network_simplex.h ]; then
+    g++ -O2 -o "$work/lemon" "$here/lemon.cpp"
+    (cd "$here" && python3 -c 'from generate import generate, problem_text; print(problem_text(*generate(7, 365, 120, 3000)), end="")') > "$work/problem"
+    lemon="$(for _ in 1 2 3 4 5; do "$work/lemon" "$work/problem"; done | awk '/solve_ms/ { print $2 * 1000000 }' | sort -n | sed -n 3p)"
+fi
+
+# The searches between two looks at the clock, where valgrind is installed: it begins a new count at each.
+if command -v valgrind > /dev/null; then
+    valgrind --tool=callgrind --dump-before=clock_gettime --callgrind-out-file="$work/counts" "$program" > /dev/null 2>&1
+fi
+searches() {
+    [ -e "$work/counts.$1" ] || return 0
+    PYTHONDONTWRITEBYTECODE=1 PYTHONPATH="$here" python3 -c 'import sys, solve; print(solve.searches_in(sys.argv[1]))' "$work/counts.$1"
+}
+
 cold="$(median 1)"
-printf '%-12s %14s %14s\n' kind microseconds 'of a cold solve'
+printf '%-10s %14s %16s %12s %10s\n' kind microseconds 'of a cold solve' 'of LEMON' searches
 place=1
 for kind in cold booking rate group; do
-    time="$(median "$place")"
-    awk -v k="$kind" -v t="$time" -v c="$cold" 'BEGIN { printf "%-12s %14.1f %14.4f\n", k, t / 1000, t / c }'
+    each="$rounds"
+    [ "$kind" != cold ] || each=1
+    awk -v k="$kind" -v t="$(median "$place")" -v c="$cold" -v l="$lemon" -v s="$(searches $((2 * place)))" -v n="$each" 'BEGIN {
+        printf "%-10s %14.1f %16.4f %12s %10s\n", k, t / 1000, t / c, l == "" ? "-" : sprintf("%.4f", t / l), s == "" ? "-" : sprintf("%.2f", s / n)
+    }'
     place=$((place + 1))
 done
 if [ $((20 * $(median 2))) -gt "$cold" ]; then

@@ -66,23 +66,27 @@ def number_in(pattern, text):
     return float(found.group(1)) if found else None
 
 
+def searches_in(counts):
+    """How often the calls of a file of callgrind settle nodes, which they do once a search."""
+    names, called, searches = {}, "", 0
+    for line in open(counts):
+        if line.startswith(("fn=", "cfn=")):
+            number, _, name = line.strip().split("=", 1)[1].partition(" ")
+            names.setdefault(number, name)
+            called = names[number] if line.startswith("cfn=") else ""
+        elif line.startswith("calls=") and "settle_until" in called:
+            searches += int(line.split("=")[1].split()[0])
+    return searches
+
+
 def searches_of(command, folder):
-    """How often a run settles nodes, which it does once a search."""
+    """The searches of a run, where valgrind is installed."""
     if not shutil.which("valgrind"):
         return None
     counts = os.path.join(folder, "callgrind.out")
     valgrind = ["valgrind", "--tool=callgrind", f"--callgrind-out-file={counts}"]
     subprocess.run(valgrind + command, capture_output=True, check=True)
-    names, called, searches = {}, "", 0
-    for line in open(counts):
-        if line.startswith("cfn=") or line.startswith("fn="):
-            number, _, name = line.strip().split("=", 1)[1].partition(" ")
-            names.setdefault(number, name)
-            if line.startswith("cfn="):
-                called = names[number]
-        elif line.startswith("calls=") and "settle_until" in called:
-            searches += int(line.split("=")[1].split()[0])
-    return searches
+    return searches_in(counts)
 
 
 def own_figures(program, problem, text, taken, folder):

@@ -4,4 +4,8 @@
 #[cfg(test)]
 mod desk;
 #[cfg(test)]
+mod hotel;
+#[cfg(test)]
+mod hundred;
+#[cfg(test)]
 mod tests;

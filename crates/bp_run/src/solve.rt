@@ -11,7 +11,7 @@ use std::alloc::Global;
 use std::marker::Brand;
 use std::sync::ledger::{Blank, Ledger};
 
-// The same, with the searches counted in a ledger.
+// A certificate from a cold solve, with the searches counted in a ledger.
 fn solved<L: Ledger>(
     alloc: Global,
     instance: &Instance,

@@ -66,10 +66,7 @@ pub fn read_certificate(alloc: Global, bytes: &[u8]) -> Result<Certificate, Text
 }
 
 /// The text of a certificate.
-pub fn text_of_certificate(
-    alloc: Global,
-    certificate: &Certificate,
-) -> Result<Vec<u8>, AllocError>
+pub fn text_of_certificate(alloc: Global, certificate: &Certificate) -> Result<Vec<u8>, AllocError>
     ensures { IfOk result (λ text. text.items ≡ certificate_text certificate.now) }
 {
     let mut text = Vec::new(alloc);

@@ -1,11 +1,12 @@
-ghost use Rattle.std.specs.Prelude.{◌≡◌, ◌≢◌, ◌<◌, map, length, [], All, MatchResult, IfOk, IfErr, IsTrue, Ok, Err};
+ghost use Rattle.std.specs.Prelude.{◌≡◌, ◌≢◌, ◌+◌, ◌^◌, ◌<◌, ◌==◌, if◌then◌else◌, true, List, map, drop, length, All, Some, None, MatchResult, IfOk, IfErr, IsTrue, Ok, Err};
+ghost use Rattle.std.specs.List.{prefix_len};
 ghost use Rattle.csv.specs.Records.{fields_of};
-ghost use Rattle.bp_stayfile.specs.Tables.{is_text, is_taken, place_of, lacking, row_at, rows_at, places_of, table_under, table_of};
+ghost use Rattle.bp_stayfile.specs.Tables.{Record, is_text, is_taken, place_of, lacking, rows_at, places_of, table_under, table_of};
 
 use super::reading::{field_at, is_text, records_of};
 use super::table::Rows;
 use crate::{Column, TableError};
-use csv::{ByteRecord, StringRecord};
+use csv::ByteRecord;
 use std::alloc::Global;
 
 /// The place of a column in a header, or past its last field.
@@ -59,68 +60,58 @@ fn is_taken(width: usize, raw: &ByteRecord) -> bool
     raw.len() == width && is_text(raw)
 }
 
-/// The fields of a record at some places.
-fn row_at(alloc: Global, places: &[usize], raw: &ByteRecord) -> Result<StringRecord, TableError>
-    requires text { IsTrue (is_text (fields_of raw.now)) }
-    requires places { All (λ p. p < length (fields_of raw.now)) places.now }
-    ensures { MatchResult result
-        (λ row. fields_of row ≡ row_at places.now (fields_of raw.now))
-        (λ e. e ≡ TableError.Memory) }
+/// How many records come before the first one that is not taken.
+fn taken_of(width: usize, records: &[ByteRecord]) -> usize
+    ensures { result ≡ prefix_len (is_taken width) (map fields_of records.now) }
 {
-    let mut row = StringRecord::with_capacity(alloc, raw.as_slice().len(), places.len()).map_err(
-        |_| TableError::Memory,
-    )?;
-    for place in places {
-        row.push_field(field_at(raw, *place))
-            .map_err(|_| TableError::Memory)?;
-    }
-    Ok(row)
-}
-
-/// The rows of the records, up to the first one that is not taken.
-fn rows_at(
-    alloc: Global,
-    places: &[usize],
-    width: usize,
-    records: &[ByteRecord],
-) -> Result<Rows, TableError>
-    requires { All (λ p. p < width) places.now }
-    ensures { MatchResult result
-        (λ t. t ≡ rows_at places.now width (map fields_of records.now))
-        (λ e. e ≡ TableError.Memory) }
-{
-    let columns = places.len();
-    let mut rows = Vec::new(alloc);
     for index in 0..records.len() {
         if !is_taken(width, &records[index]) {
-            let stop = Some(index as u64 + 2);
-            return Ok(Rows {
-                columns,
-                rows,
-                stop,
-            });
+            return index;
         }
-        rows.push(row_at(alloc, places, &records[index])?)
-            .map_err(|_| TableError::Memory)?;
     }
-    let stop = None;
-    Ok(Rows {
-        columns,
-        rows,
-        stop,
-    })
+    records.len()
 }
 
-fn table_under(
+/// The line of the first record that is not taken, where not all of them are.
+fn stop_of(taken: usize, records: usize) -> Option<u64>
+    requires { taken < 2 ^ 63 }
+    ensures { result ≡ (if taken == records then None else Some (taken + 2)) }
+{
+    if taken == records {
+        None
+    } else {
+        Some(taken as u64 + 2)
+    }
+}
+
+/// The rows of the records behind the header, up to the first one that is not taken.
+fn rows_at(places: Vec<usize>, width: usize, records: Vec<ByteRecord>) -> Rows
+    requires header { 0 < length records.items }
+    requires places { All (λ p. p < width) places.items }
+    ensures { result ≡ rows_at places.items width (drop 1 (map fields_of records.items)) }
+{
+    let behind = records.len() - 1;
+    let taken = taken_of(width, &records[1..]);
+    let stop = stop_of(taken, behind);
+    Rows {
+        places,
+        records,
+        taken,
+        stop,
+    }
+}
+
+/// The places of the columns in a header, or what is wrong with it.
+fn places_under(
     alloc: Global,
     columns: &[Column],
     header: &ByteRecord,
-    records: &[ByteRecord],
-) -> Result<Rows, TableError>
-    ensures ok { IfOk result
-        (λ t. table_under columns.now (fields_of header.now) (map fields_of records.now) ≡ Ok t) }
-    ensures err { IfErr result
-        (λ e. e ≢ TableError.Memory → table_under columns.now (fields_of header.now) (map fields_of records.now) ≡ Err e) }
+) -> Result<Vec<usize>, TableError>
+    ensures text { IfOk result (λ v. is_text (fields_of header.now) ≡ true) }
+    ensures all { IfOk result (λ v. lacking (fields_of header.now) columns.now ≡ None) }
+    ensures places { IfOk result (λ v. v.items ≡ places_of (fields_of header.now) columns.now) }
+    ensures refused { IfErr result
+        (λ e. e ≢ TableError.Memory → (records : List Record) → table_under columns.now (fields_of header.now) records ≡ Err e) }
 {
     if !is_text(header) {
         return Err(TableError::NotCsv { line: 1 });
@@ -128,8 +119,7 @@ fn table_under(
     if let Some(column) = lacking(header, columns) {
         return Err(TableError::Column { column });
     }
-    let places = places_of(alloc, header, columns)?;
-    rows_at(alloc, &places, header.len(), records)
+    places_of(alloc, header, columns)
 }
 
 /// The rows of a text under the named columns, of which there is at least one.
@@ -142,8 +132,11 @@ pub fn rows(alloc: Global, bytes: &[u8], columns: &[Column]) -> Result<Rows, Tab
         (λ e. e ≢ TableError.Memory → table_of columns.now bytes.now ≡ Err e) }
 {
     let records = records_of(alloc, bytes)?;
-    match records.as_slice() {
-        [] => Err(TableError::Column { column: columns[0] }),
-        [header, records @ ..] => table_under(alloc, columns, header, records),
+    if records.is_empty() {
+        return Err(TableError::Column { column: columns[0] });
     }
+    let header = &records[0];
+    let places = places_under(alloc, columns, header)?;
+    let width = header.len();
+    Ok(rows_at(places, width, records))
 }

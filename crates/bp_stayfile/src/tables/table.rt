@@ -1,7 +1,8 @@
 ghost use Rattle.std.specs.Prelude.{◌≡◌, ◌<◌, ◌^◌, length};
 ghost use Rattle.bp_stayfile.specs.Tables.{cell};
 
-use csv::StringRecord;
+use super::reading::field_at;
+use csv::ByteRecord;
 use std::marker::Model;
 
 /// The rows of a table: one per record, each with one field per named column, in the order of the columns.
@@ -9,21 +10,25 @@ use std::marker::Model;
 /// Contracts see the number of columns, the rows as lists of texts, and the stop.
 #[derive(Drop)]
 pub struct Rows {
-    pub(super) columns: usize,
-    pub(super) rows: Vec<StringRecord>,
+    /// The place of each named column in a record.
+    pub(super) places: Vec<usize>,
+    /// The header, and the records behind it.
+    pub(super) records: Vec<ByteRecord>,
+    /// How many of the records behind the header are rows.
+    pub(super) taken: usize,
     pub(super) stop: Option<u64>,
 }
 
 impl Model for Rows {
-    ghost use Rattle.std.specs.Prelude.{map};
+    ghost use Rattle.std.specs.Prelude.{length, map, drop};
     ghost use Rattle.csv.specs.Records.{fields_of};
-    ghost use Rattle.bp_stayfile.specs.Tables.{Table, IsTable};
+    ghost use Rattle.bp_stayfile.specs.Tables.{Table, rows_of, HaveRows};
 
     ghost Value = { Table };
 
-    ghost view = { λ a. record { columns = a.columns; rows = map fields_of a.rows.items; stop = a.stop } };
+    ghost view = { λ a. record { columns = length a.places.items; rows = rows_of a.places.items a.taken (drop 1 (map fields_of a.records.items)); stop = a.stop } };
 
-    ghost invariant = { λ a. IsTable (record { columns = a.columns; rows = map fields_of a.rows.items; stop = a.stop }) };
+    ghost invariant = { λ a. HaveRows a.places.items a.taken (drop 1 (map fields_of a.records.items)) };
 }
 
 impl Rows {
@@ -32,7 +37,8 @@ impl Rows {
         ensures value { result ≡ length self.now.rows }
         ensures fits { result < 2 ^ 63 }
     {
-        self.rows.len() as u64
+        let _records = self.records.len();
+        self.taken as u64
     }
 
     /// A field of a row, without the spaces at its ends.
@@ -41,10 +47,9 @@ impl Rows {
         requires column { column < self.now.columns }
         ensures { result.now ≡ cell self.now row column }
     {
-        match self.rows[row as usize].get(column as usize) {
-            Some(field) => field,
-            None => unreachable!(),
-        }
+        let _records = self.records.len();
+        let record = &self.records[row as usize + 1];
+        field_at(record, self.places[column as usize])
     }
 
     /// The line of the first record after the header that has another number of fields than the header, or a

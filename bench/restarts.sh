@@ -243,7 +243,7 @@ fi
 
 # The searches between two looks at the clock, where valgrind is installed: it begins a new count at each.
 if command -v valgrind > /dev/null; then
-    valgrind --tool=callgrind --dump-before=clock_gettime --callgrind-out-file="$work/counts" "$program" > /dev/null 2>&1
+    valgrind --tool=callgrind --dump-before='clock_gettime*' --callgrind-out-file="$work/counts" "$program" > /dev/null 2>&1
 fi
 searches() {
     [ -e "$work/counts.$1" ] || return 0

@@ -9,14 +9,10 @@ top="$(dirname "$here")"
 work="$1"
 crate="$work/crates/house"
 
+. "$here/crates.sh"
+copy_crates "$work" bp_types bp_hotelfile bp_stayfile
 mkdir -p "$crate/src" "$crate/data" "$crate/proofs/tables_of"
-cp "$top/HANDLES" "$work/"
 cp "$top"/examples/lindenhof/* "$crate/data/"
-for name in bp_types bp_hotelfile bp_stayfile; do
-    cp -r "$top/crates/$name" "$work/crates/"
-    rm -rf "$work/crates/$name/out" "$work/crates/$name/must-fail"
-    grep "^$name:" "$top/crates.txt" >> "$work/crates.txt"
-done
 echo 'house: bp_types bp_hotelfile bp_stayfile' >> "$work/crates.txt"
 
 cat > "$crate/src/main.rt" <<'RATTLE'

@@ -15,13 +15,9 @@ top="$(dirname "$here")"
 work="$(mktemp -d)"
 trap 'rm -rf "$work"' EXIT
 
+. "$here/crates.sh"
+copy_crates "$work" bp_types bp_edges bp_cert bp_ledger bp_board bp_core
 mkdir -p "$work/crates/desk_bench/src"
-cp "$top/HANDLES" "$work/"
-for crate in bp_types bp_edges bp_cert bp_ledger bp_board bp_core; do
-    cp -r "$top/crates/$crate" "$work/crates/"
-    rm -rf "$work/crates/$crate/out" "$work/crates/$crate/must-fail"
-    grep "^$crate:" "$top/crates.txt" >> "$work/crates.txt"
-done
 echo 'desk_bench: bp_types bp_edges bp_cert bp_board bp_core' >> "$work/crates.txt"
 cp "$top/crates/bp_core_tests/src/desk.rt" "$work/crates/desk_bench/src/"
 cp -r "$top/crates/bp_core_tests/specs" "$top/crates/bp_core_tests/proofs" "$work/crates/desk_bench/"

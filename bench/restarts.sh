@@ -12,12 +12,9 @@ top="$(dirname "$here")"
 work="$(mktemp -d)"
 trap 'rm -rf "$work"' EXIT
 
+. "$here/crates.sh"
+copy_crates "$work" bp_types bp_residual bp_paths bp_flow bp_warm bp_group
 mkdir -p "$work/crates/restart_bench/src"
-for crate in bp_types bp_residual bp_paths bp_flow bp_warm bp_group; do
-    cp -r "$top/crates/$crate" "$work/crates/"
-    rm -rf "$work/crates/$crate/out" "$work/crates/$crate/must-fail"
-done
-grep -E '^bp_(types|residual|paths|flow|warm|group):' "$top/crates.txt" > "$work/crates.txt"
 echo 'restart_bench: bp_types bp_flow bp_warm bp_group anyhow' >> "$work/crates.txt"
 
 cat > "$work/crates/restart_bench/src/main.rt" <<'END'

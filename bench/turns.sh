@@ -13,11 +13,10 @@ entries="${1:-8000000}"
 work="$(mktemp -d)"
 trap 'rm -rf "$work"' EXIT
 
-cp "$top/HANDLES" "$work/"
+. "$here/crates.sh"
+copy_crates "$work" bp_turn
 mkdir -p "$work/crates/turn_bench/src" "$work/crates/turn_bench/proofs/hire" "$work/crates/turn_bench/proofs/work"
-cp -r "$top/crates/bp_turn" "$work/crates/"
-rm -rf "$work/crates/bp_turn/out" "$work/crates/bp_turn/must-fail"
-printf 'bp_turn: atomic_table\nturn_bench: bp_turn anyhow\n' > "$work/crates.txt"
+echo 'turn_bench: bp_turn anyhow' >> "$work/crates.txt"
 
 cat > "$work/crates/turn_bench/src/main.rt" <<'END'
 // How fast threads take turns at one history lock: turn_bench THREADS TURNS

@@ -1,6 +1,7 @@
 #!/usr/bin/env bash
 # A million calls on a book, beside a C++ program with plain arrays that makes the same ones.
-# Run it at any place: bench/desk.sh. It wants rt and g++, and takes a few minutes, most of them for proofs.
+# Run it at any place: bench/desk.sh. It wants rt and g++, and takes a quarter of an hour or more, nearly all of
+# it for proofs.
 #
 # It copies this repository's crates into a temporary folder, adds a small program there over the desk of the tests,
 # which tests the conditions of each call before it is made, and proves and builds it. Both programs make 200,000

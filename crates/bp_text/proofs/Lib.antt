@@ -7,3 +7,4 @@ pub mod StageLemmas
 pub mod WholeLemmas
 pub mod SpellingLemmas
 pub mod OneWayLemmas
+pub mod DraftLemmas

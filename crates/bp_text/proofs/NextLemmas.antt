@@ -39,7 +39,7 @@ great_is_refused word bounds old new line ms count place e gives counted is long
     ]
 
 -- one number behind a word
-one_number-line : (word : List ℕ) (n : ℕ) → line_of word (n ∷ []) ≡ word ++ 32 ∷ spelled n
+pub one_number-line : (word : List ℕ) (n : ℕ) → line_of word (n ∷ []) ≡ word ++ 32 ∷ spelled n
 one_number-line word n = ap (λ xs. word ++ xs) (append-nil (32 ∷ spelled n))
 
 behind_space : (text : List ℕ) → 0 < length text → slice_index text 0 ≡ 32 → text ≡ 32 ∷ drop 1 text

@@ -3,3 +3,4 @@ pub mod Lines
 pub mod Forms
 pub mod Reading
 pub mod Laws
+pub mod Drafts

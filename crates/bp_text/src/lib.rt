@@ -3,6 +3,7 @@
 
 mod cursor;
 mod digits;
+mod draft;
 mod found;
 mod numbers;
 mod read;
@@ -12,6 +13,7 @@ mod write;
 
 pub use cursor::Lines;
 pub use digits::number;
+pub use draft::Draft;
 pub use found::{Bounds, Number};
 pub use read::{at_end, exact_line, number_line, open_line, wide_number_line, word_line};
 pub use spell::{push_line, push_number, push_numbers, push_wide_line};

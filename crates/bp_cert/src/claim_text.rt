@@ -12,17 +12,19 @@ use bp_text::{
     Bounds, Draft, Lines, TextError, open_line, push_line, push_wide_line, wide_number_line,
 };
 use bp_types::Certificate;
+use bp_types::limits::{MOST_NIGHTS, MOST_STAYS};
 use std::alloc::{AllocError, Global};
 
+/// The value of a certificate, at most, in minor units of money.
 const MOST_VALUE: u128 = 1_000_000_000_000_000_000_000_000_000_000;
 
 const SALES: Bounds = Bounds {
-    most: 4_000,
+    most: MOST_STAYS,
     greatest: u64::MAX,
 };
 
 const PRICES: Bounds = Bounds {
-    most: 400,
+    most: MOST_NIGHTS,
     greatest: u64::MAX,
 };
 

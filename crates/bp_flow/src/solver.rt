@@ -1,6 +1,6 @@
 ghost use Rattle.std.specs.Prelude.{◌≡◌, ℕ, ◌+◌, ◌-◌, ◌*◌, ◌<◌, ◌≤◌, true, false, length, slice_index, All, IfOk};
 ghost use Rattle.bp_types.specs.declared.change.Change.TheVariants.{Rooms, Demand, Rate};
-ghost use Rattle.bp_types.specs.Optimum.{Certifies, AreLeastPrices};
+ghost use Rattle.bp_types.specs.Optimum.{IsOptimum, Certifies, AreLeastPrices};
 ghost use Rattle.bp_types.specs.Program.{stay_at};
 ghost use Rattle.bp_types.specs.Changes.{changed, Fits};
 ghost use Rattle.bp_paths.specs.Labels.{nodes};
@@ -15,7 +15,7 @@ use crate::rooms::{add_rooms, take_rooms};
 use crate::settling::settle_flow;
 use bp_paths::Scratch;
 use bp_residual::Flow;
-use bp_types::{Certificate, Instance, Memory, Span, Steps};
+use bp_types::{Certificate, Instance, Memory, Span, Steps, law};
 use std::alloc::Global;
 use std::marker::Model;
 use std::sync::ledger::Ledger;
@@ -170,13 +170,20 @@ impl Solver {
         let _nights = self.flow.nights();
     }
 
-    /// The allocation, the prices, and the revenue as the value of both: a certificate of the instance with
-    /// its least prices.
+    /// The optimum of the instance, in minor units of money times the unit. It takes no memory.
+    pub fn value(&self) -> u128
+        ensures { IsOptimum self.now.flow.program result }
+    {
+        law::certificate_is_optimal();
+        self.flow.worth()
+    }
+
+    /// The allocation, the prices, and the revenue as the value of both: a certificate of the instance. From a
+    /// settled solver its prices are the least ones.
     pub fn certificate(&self, alloc: Global) -> Result<Certificate, Memory>
-        requires settled { IsSettled self.now }
         ensures certifies { IfOk result (λ c. Certifies self.now.flow.program c.value c.sell c.prices) }
-        ensures least { IfOk result (λ c. AreLeastPrices self.now.flow.program c.prices) }
-        ensures within_rates { IfOk result (λ c. All (λ x. x ≤ greatest_rate self.now.flow.program) c.prices) }
+        ensures least { IfOk result (λ c. IsSettled self.now → AreLeastPrices self.now.flow.program c.prices) }
+        ensures within_rates { IfOk result (λ c. IsSettled self.now → All (λ x. x ≤ greatest_rate self.now.flow.program) c.prices) }
         ensures sold { IfOk result (λ c. c.sell ≡ self.now.flow.sell) }
     {
         let certificate = self.flow.certificate(alloc)?;

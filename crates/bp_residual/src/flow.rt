@@ -425,6 +425,13 @@ impl Flow {
         self.sell[place] = units;
     }
 
+    /// The revenue of the allocation, in minor units of money times the unit.
+    pub fn worth(&self) -> u128
+        ensures { result ≡ worth self.now.flow.program self.now.flow.sell }
+    {
+        self.instance.worth(&self.sell)
+    }
+
     /// The allocation, the prices, and the revenue as the value of both.
     pub fn certificate(&self, alloc: Global) -> Result<Certificate, Memory>
         ensures { IfOk result (λ c. (c.value ≡ worth self.now.flow.program self.now.flow.sell) × (c.sell ≡ self.now.flow.sell) × (c.prices ≡ prices_of self.now)) }

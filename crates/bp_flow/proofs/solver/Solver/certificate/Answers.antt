@@ -15,10 +15,10 @@ returns-clause-certifies c =
     subst P c.self.view_is (certified c.self.inside.flow k.value k.sell k.prices c.self.invariant.0 c.in_ok-certificate.ensures.0 c.in_ok-certificate.ensures.1 c.in_ok-certificate.ensures.2)
 
 pub returns-clause-within_rates : goal.returns-clause-within_rates
-returns-clause-within_rates c =
+returns-clause-within_rates c settled =
     let p : Priced = c.args.self.now in
     let S : Priced → Type 0 = λ q. IsSolved q in
     let solved : IsSolved p = subst S c.self.view_is c.self.invariant.0 in
     let prices_are : c.in_ok-certificate.certificate.prices ≡ prices_of p = c.in_ok-certificate.ensures.2 ∙ ap (λ (q : Priced). prices_of q) c.self.view_is in
     let P : List ℕ → Type 0 = λ xs. All (λ x. x ≤ greatest_rate p.flow.program) xs in
-    subst P (sym prices_are) (within_rates p.flow.program (prices_of p) solved.priced.limits c.requires.settled)
+    subst P (sym prices_are) (within_rates p.flow.program (prices_of p) solved.priced.limits settled)

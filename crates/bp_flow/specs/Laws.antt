@@ -1,0 +1,9 @@
+-- Laws over solved flows.
+use Rattle.bp_types.specs.Program.{worth}
+use Rattle.bp_types.specs.Optimum.{Certifies}
+use Rattle.bp_residual.specs.Network.{Priced, prices_of}
+use Rattle.bp_flow.specs.Solvers.{IsSolved}
+
+-- the allocation of a solved flow and its prices have one value
+abbrev pub SolvedFlowsCertify : Type 0
+SolvedFlowsCertify = (p : Priced) → IsSolved p → Certifies p.flow.program (worth p.flow.program p.flow.sell) p.flow.sell (prices_of p)

@@ -1,6 +1,6 @@
 ghost use Rattle.std.specs.Prelude.{◌≡◌, ◌+◌, ◌≤◌, length, All, IfOk};
 ghost use Rattle.bp_types.specs.Limits.{most_nights};
-ghost use Rattle.bp_types.specs.Optimum.{greatest_price};
+ghost use Rattle.bp_types.specs.Optimum.{greatest_price, price_from};
 ghost use Rattle.bp_types.specs.Prices.{SumUp};
 ghost use Rattle.bp_types.specs.Program.{price};
 ghost use Rattle.bp_board.specs.Posted.{Posted, HasPrices, IsSpanOf};
@@ -61,6 +61,21 @@ impl Board {
         ensures prices { HasPrices self.now.certificate }
     {
         &self.certificate
+    }
+
+    /// How many nights have a price.
+    pub fn nights(&self) -> u32
+        ensures { result ≡ length self.now.certificate.prices }
+    {
+        self.certificate.prices.len() as u32
+    }
+
+    /// The sum of the prices from a night to the last, in minor units of money; 0 behind the last night.
+    pub fn sum_from(&self, night: u32) -> u64
+        requires { night ≤ length self.now.certificate.prices }
+        ensures { result ≡ price_from self.now.certificate.prices night }
+    {
+        self.sums[night as usize]
     }
 
     /// The sum of the prices of a span's nights, in minor units of money.

@@ -10,12 +10,13 @@ ghost use Rattle.bp_flow.specs.Settled.{IsSettled, IsSolvable};
 
 use crate::demand::reforecast;
 use crate::gap::{Gap, gap_at};
+use crate::law;
 use crate::moves::shift;
 use crate::rooms::{add_rooms, take_rooms};
 use crate::settling::settle_flow;
 use bp_paths::Scratch;
 use bp_residual::Flow;
-use bp_types::{Certificate, Instance, Memory, Span, Steps, law};
+use bp_types::{Certificate, Instance, Memory, Span, Steps};
 use std::alloc::Global;
 use std::marker::Model;
 use std::sync::ledger::Ledger;
@@ -99,8 +100,10 @@ impl Solver {
         requires { Fits self.old.flow.program (Rooms span true units) }
         ensures program { self.new.flow.program ≡ changed self.old.flow.program (Rooms span true units) }
         ensures solved { IsSolved self.new }
+        ensures solvable { IsSolvable self.new.flow.program }
         ensures counted { CountsUpTo steps.old steps.new units }
     {
+        law::solved_programs_are_solvable();
         let Span { from, to } = span;
         let _nights = self.flow.nights();
         add_rooms(&mut self.flow, span, units);
@@ -113,8 +116,10 @@ impl Solver {
         requires { Fits self.old.flow.program (Rooms span false units) }
         ensures program { self.new.flow.program ≡ changed self.old.flow.program (Rooms span false units) }
         ensures solved { IsSolved self.new }
+        ensures solvable { IsSolvable self.new.flow.program }
         ensures counted { CountsUpTo steps.old steps.new units }
     {
+        law::solved_programs_are_solvable();
         let Span { from, to } = span;
         let _nights = self.flow.nights();
         take_rooms(&mut self.flow, span, units);
@@ -127,8 +132,10 @@ impl Solver {
         requires { Fits self.old.flow.program (Demand stay value) }
         ensures program { self.new.flow.program ≡ changed self.old.flow.program (Demand stay value) }
         ensures solved { IsSolved self.new }
+        ensures solvable { IsSolvable self.new.flow.program }
         ensures counted { CountsUpTo steps.old steps.new (difference (stay_at self.old.flow.program stay).forecast value) }
     {
+        law::solved_programs_are_solvable();
         reforecast(&mut self.flow, &mut self.scratch, stay, value, steps);
         let _nights = self.flow.nights();
     }
@@ -138,8 +145,10 @@ impl Solver {
         requires { Fits self.old.flow.program (Rate stay value) }
         ensures program { self.new.flow.program ≡ changed self.old.flow.program (Rate stay value) }
         ensures solved { IsSolved self.new }
+        ensures solvable { IsSolvable self.new.flow.program }
         ensures counted { CountsUpTo steps.old steps.new (2 * (stay_at self.old.flow.program stay).forecast) }
     {
+        law::solved_programs_are_solvable();
         let _nights = self.flow.nights();
         let forecast = self.flow.stay(stay).forecast;
         self.demand(stay, 0, steps);
@@ -166,6 +175,7 @@ impl Solver {
         ensures solvable { IsSolvable self.new.flow.program }
         ensures counted { CountsUpTo steps.old steps.new 1 }
     {
+        law::solved_programs_are_solvable();
         settle_flow(&mut self.flow, &mut self.scratch, steps);
         let _nights = self.flow.nights();
     }
@@ -174,7 +184,7 @@ impl Solver {
     pub fn value(&self) -> u128
         ensures { IsOptimum self.now.flow.program result }
     {
-        law::certificate_is_optimal();
+        bp_types::law::certificate_is_optimal();
         self.flow.worth()
     }
 

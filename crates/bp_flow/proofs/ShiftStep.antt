@@ -7,13 +7,12 @@ use Rattle.bp_types.specs.Program.{no_stay}
 use Rattle.bp_types.specs.Limits.{IsWithinLimits}
 use Rattle.bp_types.specs.Optimum.{greatest_price}
 use Rattle.bp_residual.specs.declared.hop.Hop.{Hop}
-use Rattle.bp_residual.specs.Network.{Priced, IsPriced, Flow, Step, sell_more, sell_less, spare_more, spare_less, Admits, FitsSpare, Takes, step_of, steps_of, IsSlack, path_cost, pushed_along, HasImbalance, before, greatest_spare}
+use Rattle.bp_residual.specs.Network.{Priced, IsPriced, Flow, Step, sell_more, sell_less, spare_more, spare_less, Admits, FitsSpare, Takes, step_of, steps_of, IsSlack, path_cost, pushed_along, HasImbalance, before, greatest_spare, nodes}
 use Rattle.bp_residual.specs.Laws.{GrowsAlong}
 use Rattle.bp_residual.proofs.Lifts.{lift_keeps_slack, limit_keeps_slack}
 use Rattle.bp_residual.proofs.Augment.{shortest_paths_become_tight, push_moves_imbalance}
 use Rattle.bp_residual.proofs.PushLoop.{admits_along}
 use Rattle.bp_residual.proofs.Paths.{path_joins}
-use Rattle.bp_paths.specs.Labels.{nodes}
 use Rattle.bp_paths.specs.Paths.{Kept, AreDistancesUpTo, IsShortestPath}
 use Rattle.bp_paths.proofs.Answer.{admits_fewer}
 use Rattle.bp_flow.specs.Shift.{IsLiftedBy, IsShifting}

@@ -3,8 +3,7 @@ ghost use Rattle.bp_types.specs.declared.change.Change.TheVariants.{Demand};
 ghost use Rattle.bp_types.specs.Limits.{most_forecast};
 ghost use Rattle.bp_types.specs.Program.{stay_at};
 ghost use Rattle.bp_types.specs.Changes.{changed};
-ghost use Rattle.bp_paths.specs.Labels.{nodes};
-ghost use Rattle.bp_residual.specs.Network.{Priced, HasImbalance, IsBalanced, IsSlack};
+ghost use Rattle.bp_residual.specs.Network.{Priced, HasImbalance, IsBalanced, IsSlack, nodes};
 ghost use Rattle.bp_flow.specs.Solvers.{IsSolved, SetsDemand, CountsUpTo, difference};
 
 use crate::moves::shift;

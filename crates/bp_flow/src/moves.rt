@@ -1,6 +1,6 @@
 ghost use Rattle.std.specs.Prelude.{◌≡◌, ℕ, ◌+◌, ◌-◌, ◌*◌, ◌^◌, ◌<◌, ◌≤◌, length, slice_index, min};
-ghost use Rattle.bp_residual.specs.Network.{Priced, IsSlack, IsPriced, IsBalanced, HasImbalance};
-ghost use Rattle.bp_paths.specs.Labels.{nodes, far};
+ghost use Rattle.bp_residual.specs.Network.{Priced, IsSlack, IsPriced, IsBalanced, HasImbalance, nodes};
+ghost use Rattle.bp_paths.specs.Paths.{far};
 ghost use Rattle.bp_flow.specs.Shift.{IsShifting, AreRaises, IsLiftedBy};
 ghost use Rattle.bp_flow.specs.Solvers.{CountsUpTo};
 

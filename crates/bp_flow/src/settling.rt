@@ -1,6 +1,6 @@
 ghost use Rattle.std.specs.Prelude.{◌≡◌, ℕ, ◌+◌, ◌-◌, ◌<◌, ◌≤◌, length, slice_index};
-ghost use Rattle.bp_residual.specs.Network.{Priced, IsSlack, IsBalanced};
-ghost use Rattle.bp_paths.specs.Labels.{nodes, far};
+ghost use Rattle.bp_residual.specs.Network.{Priced, IsSlack, IsBalanced, nodes};
+ghost use Rattle.bp_paths.specs.Paths.{far};
 ghost use Rattle.bp_flow.specs.Settled.{IsSettled, AreFalls};
 
 use bp_paths::{Scratch, search_to};

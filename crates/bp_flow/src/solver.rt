@@ -3,8 +3,7 @@ ghost use Rattle.bp_types.specs.declared.change.Change.TheVariants.{Rooms, Deman
 ghost use Rattle.bp_types.specs.Optimum.{IsOptimum, Certifies, AreLeastPrices};
 ghost use Rattle.bp_types.specs.Program.{stay_at};
 ghost use Rattle.bp_types.specs.Changes.{changed, Fits};
-ghost use Rattle.bp_paths.specs.Labels.{nodes};
-ghost use Rattle.bp_residual.specs.Network.{Priced, greatest_rate};
+ghost use Rattle.bp_residual.specs.Network.{Priced, greatest_rate, nodes};
 ghost use Rattle.bp_flow.specs.Solvers.{ColdSoFar, IsSolved, IsSolverOf, CountsUpTo, difference};
 ghost use Rattle.bp_flow.specs.Settled.{IsSettled, IsSolvable};
 
@@ -32,8 +31,7 @@ pub struct Solver {
 
 impl Model for Solver {
     ghost use Rattle.std.specs.Prelude.{◌≡◌, length};
-    ghost use Rattle.bp_residual.specs.Network.{Priced};
-    ghost use Rattle.bp_paths.specs.Labels.{nodes};
+    ghost use Rattle.bp_residual.specs.Network.{Priced, nodes};
     ghost use Rattle.bp_flow.specs.Solvers.{IsSolved};
 
     ghost Value = { Priced };

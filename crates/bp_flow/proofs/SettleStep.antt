@@ -12,7 +12,7 @@ use Rattle.bp_residual.proofs.Paths.{reaches_later}
 use Rattle.bp_residual.proofs.Least.{settled_prices_are_least, settled_is_slack}
 use Rattle.bp_residual.proofs.LeastLaws.{least_prices_are_within_rates}
 use Rattle.bp_paths.specs.Paths.{AreDistancesTo}
-use Rattle.bp_flow.specs.Settled.{IsSettled, AreFalls}
+use Rattle.bp_flow.specs.Settled.{IsSettledFlow, AreFalls}
 
 abbrev pub falls : (ℕ → ℕ) → ℕ → List ℕ
 falls w n = map (λ k. w k - w (k + 1)) (range_with_len 0 n)
@@ -53,7 +53,7 @@ first_is_greatest u N down (suc v) h = let e : u (suc v) ≡ u (v + 1) = ap u (o
 
 pub settled_by_lift : (p q : Priced) (distances by : List ℕ) → IsPriced p → IsSlack p.flow (slice_index p.potentials) → IsBalanced p.flow → AreDistancesTo p (length p.flow.program.rooms) distances → q.flow ≡ p.flow →
     AreFalls distances (slice_index p.potentials 0) by (length p.flow.program.rooms + 1) → IsLifted (length p.flow.program.rooms) p.potentials by q.potentials →
-    IsSettled q × IsSlack q.flow (slice_index q.potentials)
+    IsSettledFlow q × IsSlack q.flow (slice_index q.potentials)
 settled_by_lift p q distances by priced slack balance to same_flow fills lifted =
     let f : Flow = p.flow in
     let N = length f.program.rooms in

@@ -12,7 +12,7 @@ use Rattle.bp_residual.proofs.Least.{settled_prices_are_least}
 use Rattle.bp_residual.proofs.LeastLaws.{least_prices_are_within_rates}
 use Rattle.bp_residual.proofs.Shortest.{distances_exist}
 use Rattle.bp_flow.specs.Laws.{SolvedProgramsAreSolvable}
-use Rattle.bp_flow.specs.Solvers.{IsSolved}
+use Rattle.bp_flow.specs.Solvers.{IsSolvedFlow}
 use Rattle.bp_flow.proofs.SettleStep.{falls, falls_sums}
 
 below_greatest : (f : ℕ → ℕ) (n j : ℕ) → j < n → f j ≤ greatest_below f n
@@ -28,7 +28,7 @@ within_rates p prices limits least =
     least_prices_are_within_rates p prices (greatest_rate p) limits least (λ j h. below_greatest (λ i. (stay_at p i).rate) (length p.stays) j h)
 
 -- the prices of the potentials, less the distances to the last node
-least_prices : (p : Priced) → IsSolved p → (prices : List ℕ) × AreLeastPrices p.flow.program prices
+least_prices : (p : Priced) → IsSolvedFlow p → (prices : List ℕ) × AreLeastPrices p.flow.program prices
 least_prices p solved =
     let f : Flow = p.flow in
     let N = length f.program.rooms in

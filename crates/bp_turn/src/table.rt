@@ -50,7 +50,7 @@ impl<B: Story> TableRule<Option<B>, View<B::Fixed, B::Entry>, Snapshot<B>> for I
     ghost first = { λ about. first_view (B.fixed about.value) (B.story about.value) };
 }
 
-pub type Board<B> = Table<
+pub type LockTable<B> = Table<
     Option<B>,
     View<<B as Story>::Fixed, <B as Story>::Entry>,
     Snapshot<B>,

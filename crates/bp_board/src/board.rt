@@ -1,9 +1,10 @@
 ghost use Rattle.std.specs.Prelude.{◌≡◌, ◌+◌, ◌≤◌, length, All, IfOk};
-ghost use Rattle.bp_types.specs.Limits.{most_nights};
-ghost use Rattle.bp_types.specs.Optimum.{greatest_price, price_from};
+ghost use Rattle.bp_types.specs.declared.limits.TheConstants.{MOST_NIGHTS, MOST_PRICE};
+ghost use Rattle.bp_types.specs.Optimum.{price_from};
 ghost use Rattle.bp_types.specs.Prices.{SumUp};
 ghost use Rattle.bp_types.specs.Program.{price};
-ghost use Rattle.bp_board.specs.Posted.{Posted, HasPrices, IsSpanOf};
+ghost use Rattle.bp_types.specs.Spans.{IsSpanWithin};
+ghost use Rattle.bp_board.specs.Posted.{Posted, HasPrices};
 
 use bp_types::{Certificate, Memory, Span};
 use std::alloc::Global;
@@ -80,7 +81,7 @@ impl Board {
 
     /// The sum of the prices of a span's nights, in minor units of money.
     pub fn price(&self, span: Span) -> u64
-        requires { IsSpanOf self.now span }
+        requires { IsSpanWithin (length self.now.certificate.prices) span }
         ensures { result ≡ price self.now.certificate.prices span }
     {
         self.sums[span.from as usize] - self.sums[span.to as usize]
@@ -90,8 +91,8 @@ impl Board {
 /// Fills in the sums of the prices from each night to the last, from the last night on.
 fn sum_up(prices: &[u64], sums: &mut [u64])
     requires one_more { length sums.old ≡ length prices.now + 1 }
-    requires nights { length prices.now ≤ most_nights }
-    requires within_limit { All (λ x. x ≤ greatest_price) prices.now }
+    requires nights { length prices.now ≤ MOST_NIGHTS }
+    requires within_limit { All (λ x. x ≤ MOST_PRICE) prices.now }
     ensures { SumUp prices.now sums.new }
 {
     let nights = prices.len();

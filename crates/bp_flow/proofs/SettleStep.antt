@@ -3,8 +3,9 @@ use Rattle.std.proofs.Common.{◌≡◌, ℕ, zero, suc, ◌+◌, ◌-◌, ◌<�
 use Rattle.std.specs.List.{range_with_len, All}
 use Rattle.std.proofs.lemmas.List.{same_lists, get_or_default}
 use Rattle.std.proofs.lemmas.List.FromFn.{length-map-range_with_len, get_or-map-range_with_len}
+use Rattle.bp_types.specs.declared.limits.TheConstants.{MOST_PRICE}
 use Rattle.bp_types.specs.Program.{no_stay}
-use Rattle.bp_types.specs.Optimum.{greatest_price, AreSuffixSums, AreLeastPrices}
+use Rattle.bp_types.specs.Optimum.{AreSuffixSums, AreLeastPrices}
 use Rattle.bp_residual.specs.Network.{Priced, IsPriced, Flow, spare_more, IsSlack, IsBalanced, IsLifted}
 use Rattle.bp_residual.specs.Laws.{IsSettledBy}
 use Rattle.bp_residual.proofs.Lifts.{lift_keeps_slack}
@@ -73,7 +74,7 @@ settled_by_lift p q distances by priced slack balance to same_flow fills lifted 
     let len : length prices ≡ N = length-map-range_with_len (λ k. settled k - settled (k + 1)) 0 N in
     let end : settled N ≡ 0 = omega (arith, priced.potentials.last) in
     let least : AreLeastPrices f.program prices = settled_prices_are_least f u d settled prices priced.limits priced.flow balance slack priced.potentials.last by_settled len (falls_sums settled N end down) in
-    let within : All (λ x. x ≤ greatest_price) prices = least_prices_are_within_rates f.program prices greatest_price priced.limits least (λ j h. (priced.limits.rates j no_stay h).1) in
+    let within : All (λ x. x ≤ MOST_PRICE) prices = least_prices_are_within_rates f.program prices MOST_PRICE priced.limits least (λ j h. (priced.limits.rates j no_stay h).1) in
     let top : (v : ℕ) → v ≤ N → u v ≤ u 0 = first_is_greatest u N priced.potentials.falls in
     let alike : (k : ℕ) → k < N → w k + settled (k + 1) ≡ settled k + w (k + 1) = λ k h.
     omega (arith, lifted.price k h, fills k (omega arith), fills (k + 1) (omega arith), below k (omega arith), below (k + 1) (omega arith), top k (omega arith), top (k + 1) (omega arith), down k h, within k 0 (omega (arith, len)), falls_at settled N k h) in

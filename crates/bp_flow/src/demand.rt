@@ -1,6 +1,6 @@
 ghost use Rattle.std.specs.Prelude.{◌≡◌, ℕ, ◌+◌, ◌-◌, ◌<◌, ◌≤◌, length, slice_index};
+ghost use Rattle.bp_types.specs.declared.limits.TheConstants.{MOST_FORECAST};
 ghost use Rattle.bp_types.specs.declared.change.Change.TheVariants.{Demand};
-ghost use Rattle.bp_types.specs.Limits.{most_forecast};
 ghost use Rattle.bp_types.specs.Program.{stay_at};
 ghost use Rattle.bp_types.specs.Changes.{changed};
 ghost use Rattle.bp_residual.specs.Network.{Priced, HasImbalance, IsBalanced, IsSlack, nodes};
@@ -15,7 +15,7 @@ use std::sync::ledger::Ledger;
 /// Sets the forecast of a stay, and how much of it is sold.
 fn set_demand(flow: &mut Flow, stay: u32, value: u64, units: u64)
     requires stay { stay < length flow.old.flow.program.stays }
-    requires value { value ≤ most_forecast }
+    requires value { value ≤ MOST_FORECAST }
     requires units { units ≤ value }
     ensures { SetsDemand flow.old flow.new stay value units }
 {
@@ -39,7 +39,7 @@ pub(crate) fn reforecast<L: Ledger>(
     steps: &mut Steps<L>,
 )
     requires stay { stay < length flow.old.flow.program.stays }
-    requires value { value ≤ most_forecast }
+    requires value { value ≤ MOST_FORECAST }
     requires size { length scratch.old.distances ≡ nodes flow.old }
     requires solved { IsSolvedFlow flow.old }
     ensures program { flow.new.flow.program ≡ changed flow.old.flow.program (Demand stay value) }

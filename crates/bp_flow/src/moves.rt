@@ -7,14 +7,12 @@ ghost use Rattle.bp_flow.specs.Solvers.{CountsSearches};
 use bp_paths::{Found, Scratch, search};
 use bp_residual::{Flow, law};
 use bp_types::Steps;
+use bp_types::limits::MOST_NODES;
 use std::sync::ledger::Ledger;
-
-/// One place for each node.
-const MOST_NODES: usize = 401;
 
 fn fill_raises(scratch: &Scratch, target: u128, by: &mut [u128])
     requires size { length by.old ≡ length scratch.now.distances }
-    requires few { length by.old ≤ 401 }
+    requires few { length by.old ≤ MOST_NODES }
     requires target { target < far }
     ensures { AreRaises scratch.now.distances target by.new (length by.new) }
 {

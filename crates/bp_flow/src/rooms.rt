@@ -1,6 +1,6 @@
 ghost use Rattle.std.specs.Prelude.{◌≡◌, ℕ, ◌<◌, ◌≤◌, true, false, length, slice_index};
+ghost use Rattle.bp_types.specs.declared.limits.TheConstants.{MOST_UNITS};
 ghost use Rattle.bp_types.specs.declared.change.Change.TheVariants.{Rooms};
-ghost use Rattle.bp_types.specs.Limits.{most_rooms};
 ghost use Rattle.bp_types.specs.Changes.{changed, Fits};
 ghost use Rattle.bp_residual.specs.Network.{Priced, HasImbalance, IsSlack};
 ghost use Rattle.bp_flow.specs.Solvers.{IsSolvedFlow};
@@ -16,7 +16,7 @@ pub(crate) fn add_rooms(flow: &mut Flow, span: Span, units: u64)
     ensures nights { length flow.new.flow.program.rooms ≡ length flow.old.flow.program.rooms }
     ensures slack { IsSlack flow.new.flow (slice_index flow.new.potentials) }
     ensures imbalance { HasImbalance flow.new.flow span.from span.to units }
-    ensures few { units ≤ most_rooms }
+    ensures few { units ≤ MOST_UNITS }
 {
     flow.move_rooms(span, true, units);
 }
@@ -29,7 +29,7 @@ pub(crate) fn take_rooms(flow: &mut Flow, span: Span, units: u64)
     ensures nights { length flow.new.flow.program.rooms ≡ length flow.old.flow.program.rooms }
     ensures slack { IsSlack flow.new.flow (slice_index flow.new.potentials) }
     ensures imbalance { HasImbalance flow.new.flow span.to span.from units }
-    ensures few { units ≤ most_rooms }
+    ensures few { units ≤ MOST_UNITS }
 {
     flow.move_rooms(span, false, units);
 }

@@ -7,14 +7,12 @@ ghost use Rattle.bp_flow.specs.Solvers.{CountsSearches};
 use bp_paths::{Scratch, search_to};
 use bp_residual::Flow;
 use bp_types::Steps;
+use bp_types::limits::MOST_NODES;
 use std::sync::ledger::Ledger;
-
-/// One place for each node.
-const MOST_NODES: usize = 401;
 
 fn fill_falls(scratch: &Scratch, top: u128, by: &mut [u128])
     requires size { length by.old ≡ length scratch.now.distances }
-    requires few { length by.old ≤ 401 }
+    requires few { length by.old ≤ MOST_NODES }
     ensures { AreFalls scratch.now.distances top by.new (length by.new) }
 {
     for node in 0..by.len() {

@@ -1,6 +1,7 @@
 ghost use Rattle.std.specs.Prelude.{◌≡◌, ℕ, ◌+◌, ◌-◌, ◌*◌, ◌<◌, ◌≤◌, true, false, length, slice_index, All, IfOk};
 ghost use Rattle.bp_types.specs.declared.change.Change.TheVariants.{Rooms, Demand, Rate};
-ghost use Rattle.bp_types.specs.Optimum.{IsOptimum, Certifies, AreLeastPrices};
+ghost use Rattle.bp_types.specs.Claim.{IsCertificateOf, IsLeastCertificate};
+ghost use Rattle.bp_types.specs.Optimum.{IsOptimum};
 ghost use Rattle.bp_types.specs.Program.{stay_at};
 ghost use Rattle.bp_types.specs.Changes.{changed, Fits};
 ghost use Rattle.bp_residual.specs.Network.{Priced, greatest_rate, nodes};
@@ -195,11 +196,12 @@ impl Solver {
     /// The allocation, the prices, and the revenue as the value of both: a certificate of the instance. From a
     /// settled solver its prices are the least ones.
     pub fn certificate(&self, alloc: Global) -> Result<Certificate, Memory>
-        ensures certifies { IfOk result (λ c. Certifies self.now.flow.program c.value c.sell c.prices) }
-        ensures least { IfOk result (λ c. IsSettled self.now → AreLeastPrices self.now.flow.program c.prices) }
+        ensures certifies { IfOk result (IsCertificateOf self.now.flow.program) }
+        ensures least { IfOk result (λ c. IsSettled self.now → IsLeastCertificate self.now.flow.program c) }
         ensures within_rates { IfOk result (λ c. IsSettled self.now → All (λ x. x ≤ greatest_rate self.now.flow.program) c.prices) }
         ensures sold { IfOk result (λ c. c.sell ≡ self.now.flow.sell) }
     {
+        bp_types::law::certificate_is_optimal();
         let certificate = self.flow.certificate(alloc)?;
         Ok(certificate)
     }

@@ -1,9 +1,9 @@
 -- The interval network: nodes 0 to N, an arc for each stay, and a free arc over each night.
 use Rattle.std.specs.List.{range_with_len}
 use Rattle.std.specs.Prelude.{◌≡◌, ◌≢◌, ℕ, ◌+◌, ◌-◌, ◌*◌, ◌^◌, ◌≤◌, ◌<◌, zero, suc, min, max, nat_le, nat_lt, if◌then◌else◌, List, [], ◌∷◌, length, map, slice_index, slice_set, All, Option, Some, None, MatchOption}
+use Rattle.bp_types.specs.declared.limits.TheConstants.{MOST_PRICE}
 use Rattle.bp_types.specs.Program.{Program, stay_at, load}
 use Rattle.bp_types.specs.Limits.{IsWithinLimits}
-use Rattle.bp_types.specs.Optimum.{greatest_price}
 use Rattle.bp_residual.specs.declared.hop.Hop.{Hop}
 
 -- a program, what is sold of each stay, and the spare rooms of each night
@@ -175,7 +175,7 @@ pub record ArePotentials (nights : ℕ) (potentials : List ℕ) : Type 0 where
   pub one_each : length potentials ≡ nights + 1
   pub last : slice_index potentials nights ≡ 0
   pub falls : (n : ℕ) → n < nights → slice_index potentials (n + 1) ≤ slice_index potentials n
-  pub within_limit : (n : ℕ) → n < nights → slice_index potentials n ≤ slice_index potentials (n + 1) + greatest_price
+  pub within_limit : (n : ℕ) → n < nights → slice_index potentials n ≤ slice_index potentials (n + 1) + MOST_PRICE
 
 -- every value is within its limit, and the lists belong together
 pub record IsPriced (f : Priced) : Type 0 where
@@ -224,7 +224,7 @@ pub record IsLifted (nights : ℕ) (old by new : List ℕ) : Type 0 where
   pub price : (n : ℕ) → n < nights →
       slice_index new n
       ≡ slice_index new (n + 1)
-      + min ((slice_index old n + slice_index by n) - (slice_index old (n + 1) + slice_index by (n + 1))) greatest_price
+      + min ((slice_index old n + slice_index by n) - (slice_index old (n + 1) + slice_index by (n + 1))) MOST_PRICE
 
 -- the reduced cost of a step that has room for a unit; None where it has none
 abbrev pub IsCost : Priced → Step → Option ℕ → Type 0

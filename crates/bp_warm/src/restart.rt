@@ -1,8 +1,8 @@
 ghost use Rattle.std.specs.Prelude.{◌≡◌, ◌+◌};
-ghost use Rattle.bp_types.specs.Changes.{changed, Fits};
+ghost use Rattle.bp_types.specs.Changes.{changed, changed_by_all, Fits, FitInTurn};
 ghost use Rattle.bp_flow.specs.Settled.{IsSettled, IsSolvable};
 ghost use Rattle.bp_flow.specs.Solvers.{CountsSearches, IsSolved};
-ghost use Rattle.bp_warm.specs.Turns.{FitInTurn, changed_by_all, units_moved, units_moved_by_all};
+ghost use Rattle.bp_warm.specs.Turns.{units_moved, units_moved_by_all};
 
 use bp_flow::Solver;
 use bp_types::{Change, Steps};

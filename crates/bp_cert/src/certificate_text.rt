@@ -15,10 +15,9 @@ use std::alloc::{AllocError, Global};
 fn read_lines(alloc: Global, lines: &mut Lines<'_>) -> Result<Certificate, TextError>
     ensures { IsReading all_certificate_lines IsSpeakable lines.old lines.new result }
 {
-    let mut numbers = Vec::new(alloc);
-    word_line(lines, b"certificate 1", &mut numbers)?;
+    word_line(lines, b"certificate 1")?;
     let certificate = certificate_lines(alloc, lines)?;
-    word_line(lines, b"end", &mut numbers)?;
+    word_line(lines, b"end")?;
     Ok(certificate)
 }
 

@@ -18,24 +18,20 @@ struct Head {
     stays: u64,
 }
 
-fn read_head(
-    alloc: Global,
-    lines: &mut Lines<'_>,
-    numbers: &mut Vec<u64>,
-) -> Result<Head, TextError>
+fn read_head(alloc: Global, lines: &mut Lines<'_>) -> Result<Head, TextError>
     ensures { MatchResult result
         (λ h. IsHead h.rooms.items h.stays × GivesLines lines.old lines.new (head_lines h.rooms.items h.stays) lines.new.rest)
         (λ e. IsReading problem_lines IsProblem lines.old lines.new (Err e)) }
 {
     let mut rooms = Vec::new(alloc);
-    word_line(lines, b"problem 1", numbers)?;
-    let nights = number_line(lines, b"nights", 1, MOST_NIGHTS as u64, numbers)?;
+    word_line(lines, b"problem 1")?;
+    let nights = number_line(lines, b"nights", 1, MOST_NIGHTS as u64)?;
     let bounds = Bounds {
         most: nights as usize,
         greatest: MOST_ROOMS,
     };
     exact_line(lines, b"rooms", bounds, &mut rooms)?;
-    let stays = number_line(lines, b"stays", 0, MOST_STAYS as u64, numbers)?;
+    let stays = number_line(lines, b"stays", 0, MOST_STAYS as u64)?;
     Ok(Head { rooms, stays })
 }
 
@@ -72,7 +68,6 @@ fn read_stays(
     lines: &mut Lines<'_>,
     rooms: &[u64],
     count: u64,
-    numbers: &mut Vec<u64>,
 ) -> Result<Vec<Stay>, TextError>
     requires { IsHead rooms.now count }
     ensures { MatchResult result
@@ -81,8 +76,9 @@ fn read_stays(
 {
     let nights = rooms.len() as u32;
     let mut stays = Vec::new(alloc);
+    let mut numbers = Vec::new(alloc);
     for _ in 0..count {
-        let stay = next_stay(lines, nights, numbers)?;
+        let stay = next_stay(lines, nights, &mut numbers)?;
         stays.push(stay)?;
     }
     Ok(stays)
@@ -91,10 +87,9 @@ fn read_stays(
 fn read_lines(alloc: Global, lines: &mut Lines<'_>) -> Result<Instance, TextError>
     ensures { IsReading problem_lines IsProblem lines.old lines.new result }
 {
-    let mut numbers = Vec::new(alloc);
-    let head = read_head(alloc, lines, &mut numbers)?;
-    let stays = read_stays(alloc, lines, &head.rooms, head.stays, &mut numbers)?;
-    word_line(lines, b"end", &mut numbers)?;
+    let head = read_head(alloc, lines)?;
+    let stays = read_stays(alloc, lines, &head.rooms, head.stays)?;
+    word_line(lines, b"end")?;
     Ok(Instance::within(head.rooms, stays))
 }
 

@@ -8,3 +8,4 @@ pub mod WholeLemmas
 pub mod SpellingLemmas
 pub mod OneWayLemmas
 pub mod DraftLemmas
+pub mod WordLemmas

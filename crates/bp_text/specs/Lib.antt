@@ -4,3 +4,5 @@ pub mod Forms
 pub mod Reading
 pub mod Laws
 pub mod Drafts
+pub mod Words
+pub mod Places

@@ -9,6 +9,7 @@ mod numbers;
 mod read;
 mod spell;
 mod text_error;
+mod words;
 mod write;
 
 pub use cursor::Lines;
@@ -18,4 +19,5 @@ pub use found::{Bounds, Number};
 pub use read::{at_end, exact_line, number_line, open_line, wide_number_line, word_line};
 pub use spell::{push_line, push_number, push_numbers, push_wide_line};
 pub use text_error::TextError;
+pub use words::{Counted, Words};
 pub use write::write_text;

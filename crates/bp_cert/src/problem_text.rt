@@ -1,26 +1,15 @@
+//! The text of a problem.
 ghost use Rattle.std.specs.Prelude.{◌≡◌, ◌≤◌, length, map, codes, MatchResult, Err};
 ghost use Rattle.bp_types.specs.Program.{Program};
-ghost use Rattle.bp_cert.specs.Reading.{IsReading, IsText, GivesLines, seen_as};
-ghost use Rattle.bp_cert.specs.Forms.{IsLine};
+ghost use Rattle.bp_text.specs.Reading.{IsReading, IsText, GivesLines, seen_as};
+ghost use Rattle.bp_text.specs.Forms.{IsLine};
 ghost use Rattle.bp_cert.specs.Texts.{problem_lines, head_lines, stay_line, stay_numbers, IsProblem, IsHead, IsStayWithin, AreStaysWithin};
-ghost use Rattle.bp_cert.specs.Lines.{Given};
+ghost use Rattle.bp_text.specs.Lines.{Given};
 
-use crate::TextError;
-use crate::lines::Lines;
-use crate::lines::form::Bounds;
-use crate::lines::next::{at_end, exact_line, number_line, word_line};
+use bp_text::{Bounds, Lines, TextError, at_end, exact_line, number_line, word_line};
+use bp_types::limits::{MOST_FORECAST, MOST_NIGHTS, MOST_RATE, MOST_ROOMS, MOST_STAYS};
 use bp_types::{Instance, Span, Stay};
 use std::alloc::Global;
-
-const MOST_NIGHTS: u64 = 400;
-
-const MOST_STAYS: u64 = 4_000;
-
-const MOST_ROOMS: u64 = 10_000;
-
-const MOST_RATE: u64 = 1_000_000_000;
-
-const MOST_FORECAST: u64 = 1_000_000;
 
 /// What stands before the stays of a problem: its rooms by night, and how many stays follow.
 #[derive(Drop)]
@@ -40,18 +29,18 @@ fn read_head(
 {
     let mut rooms = Vec::new(alloc);
     word_line(lines, b"problem 1", numbers)?;
-    let nights = number_line(lines, b"nights", 1, MOST_NIGHTS, numbers)?;
+    let nights = number_line(lines, b"nights", 1, MOST_NIGHTS as u64, numbers)?;
     let bounds = Bounds {
         most: nights as usize,
         greatest: MOST_ROOMS,
     };
     exact_line(lines, b"rooms", bounds, &mut rooms)?;
-    let stays = number_line(lines, b"stays", 0, MOST_STAYS, numbers)?;
+    let stays = number_line(lines, b"stays", 0, MOST_STAYS as u64, numbers)?;
     Ok(Head { rooms, stays })
 }
 
 fn next_stay(lines: &mut Lines<'_>, nights: u32, numbers: &mut Vec<u64>) -> Result<Stay, TextError>
-    requires { nights ≤ 400 }
+    requires { nights ≤ MOST_NIGHTS }
     ensures { IsLine (codes "stay") (λ ns. length ns ≡ 4) (IsStayWithin nights) lines.old lines.new (seen_as stay_numbers result) }
 {
     let bounds = Bounds {

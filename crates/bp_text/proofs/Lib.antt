@@ -9,3 +9,4 @@ pub mod SpellingLemmas
 pub mod OneWayLemmas
 pub mod DraftLemmas
 pub mod WordLemmas
+pub mod KindLemmas

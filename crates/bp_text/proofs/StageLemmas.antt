@@ -8,6 +8,7 @@ use Rattle.bp_text.specs.declared.text_error.TextError.{TextError}
 use Rattle.bp_text.specs.declared.text_error.TextError.TheVariants.{BadLine, Limit, TooShort, Trailing, Memory}
 use Rattle.bp_text.specs.Lines.{Line, HasNoEnd, Given, GivesLine, line_of, text_of}
 use Rattle.bp_text.specs.Forms.{IsLine}
+use Rattle.bp_text.specs.Places.{IsPlace, IsRefusedLine}
 use Rattle.bp_text.specs.Reading.{Begins, HasForm, GivesLines, IsReading, EndsShort}
 use Rattle.bp_text.proofs.EndLemmas.{one_line, no_end_in_front}
 
@@ -36,6 +37,36 @@ more_lines old mid new front lines before gives = record {
   given = omega (arith, gives.given, before.given, length-append front lines);
   splits = before.splits ∙ ap (λ xs. text_of front ++ xs) gives.splits ∙ sym (append_assoc (text_of front) (text_of lines) new.rest) ∙ ap (λ xs. xs ++ new.rest) (sym (text_of-append front lines));
 }
+
+-- a refusal of the line at a place is one of the text
+pub refused_here : {V : Type 0} (lines : V → List Line) (Within : V → Type 0) (front : List Line) (Form Fine : Line → Type 0) (old mid new : Given) (e : TextError) →
+    IsPlace lines Within front Form Fine → GivesLines old mid front mid.rest → IsRefusedLine Form Fine mid new e → IsReading lines Within old new (Err e)
+refused_here lines Within front Form Fine old mid new (BadLine place) stage before bad = record {
+  front = front;
+  line = bad.0;
+  begins = stage.begins;
+  wrong = λ has. bad.2 (stage.form has.0 bad.0 has.1 has.2);
+  no_end = bad.1.no_end;
+  gives = one_more_line old mid new front bad.0 before bad.1;
+  counted = bad.3;
+}
+refused_here lines Within front Form Fine old mid new (Limit place) stage before beyond = record {
+  front = front;
+  line = beyond.0;
+  begins = stage.begins;
+  form = stage.some beyond.0 beyond.2;
+  outside = λ right. beyond.3 (stage.fine right.0 beyond.0 right.1 right.2 right.3);
+  no_end = beyond.1.no_end;
+  gives = one_more_line old mid new front beyond.0 before beyond.1;
+  counted = beyond.4;
+}
+refused_here lines Within front Form Fine old mid new TooShort stage before short =
+    let P : Given → Type 0 = λ g. EndsShort lines Within old g in
+    subst P (sym short.0) (record { front = front; begins = stage.begins; gives = before; no_end = short.1 })
+refused_here lines Within front Form Fine old mid new (Trailing place) stage before never = never
+refused_here lines Within front Form Fine old mid new Memory stage before stopped =
+    let none = no_end_in_front lines Within front stage.no_ends stage.begins in
+    (front ++ stopped.0 ∷ [], All-append HasNoEnd front (stopped.0 ∷ []) none (one_line stopped.0 stopped.1.no_end), one_more_line old mid new front stopped.0 before stopped.1)
 
 -- behind these lines a text goes on with a word and numbers in a form, and within the limits they are fine
 pub record IsStage {V : Type 0} (lines : V → List Line) (Within : V → Type 0) (front : List Line) (word : List ℕ) (Form Fine : List ℕ → Type 0) : Type 0 where

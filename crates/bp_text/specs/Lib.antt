@@ -6,3 +6,4 @@ pub mod Laws
 pub mod Drafts
 pub mod Words
 pub mod Places
+pub mod Kinds

@@ -5,15 +5,15 @@ use Rattle.std.proofs.lemmas.List.{append-nil, length-replicate, get_or-replicat
 use Rattle.std.proofs.lemmas.List.Elements.{All-append}
 use Rattle.bp_types.specs.declared.stay.Stay.{Stay}
 use Rattle.bp_types.specs.Program.{Program, no_stay}
-use Rattle.bp_types.specs.Limits.{most_nights}
-use Rattle.bp_cert.specs.Lines.{Line, Given, GivesLine, line_of}
-use Rattle.bp_cert.specs.Forms.{AreWithin}
-use Rattle.bp_cert.specs.Reading.{GivesLines, Spells}
+use Rattle.bp_types.specs.declared.limits.TheConstants.{MOST_NIGHTS, MOST_STAYS, MOST_ROOMS}
+use Rattle.bp_text.specs.Lines.{Line, Given, GivesLine, line_of}
+use Rattle.bp_text.specs.Forms.{AreWithin}
+use Rattle.bp_text.specs.Reading.{GivesLines, Spells}
 use Rattle.bp_cert.specs.Texts.{stay_numbers, stay_line, head_lines, stay_lines, problem_lines, IsProblem, IsStayWithin, AreStaysWithin, IsHead}
-use Rattle.bp_cert.proofs.LineLemmas.{line_injective}
-use Rattle.bp_cert.proofs.NextLemmas.{only_number}
-use Rattle.bp_cert.proofs.EndLemmas.{problem_no_ends}
-use Rattle.bp_cert.proofs.StageLemmas.{IsStage, one_more_line}
+use Rattle.bp_text.proofs.LineLemmas.{line_injective}
+use Rattle.bp_text.proofs.NextLemmas.{only_number}
+use Rattle.bp_cert.proofs.EndsOfTexts.{problem_no_ends}
+use Rattle.bp_text.proofs.StageLemmas.{IsStage, one_more_line}
 
 no_numbers : (ns : List ℕ) → length ns ≡ 0 → ns ≡ []
 no_numbers [] e = refl
@@ -111,7 +111,7 @@ word_alone word = append-nil word
 bare : (rooms : List ℕ) → IsHead rooms 0 → IsProblem (record { rooms = rooms; stays = [] })
 bare rooms head = problem_within rooms [] head (λ k d h. absurd (omega arith))
 
-zero_rooms : (n : ℕ) → 1 ≤ n → n ≤ most_nights → IsHead (replicate n 0) 0
+zero_rooms : (n : ℕ) → 1 ≤ n → n ≤ MOST_NIGHTS → IsHead (replicate n 0) 0
 zero_rooms n some few =
     let long = length-replicate {A = ℕ} n 0 in
     record {
@@ -132,7 +132,7 @@ stage_first =
       fine = λ v ns more within none e. tt;
     }
 
-pub stage_nights : IsStage problem_lines IsProblem (first_line ∷ []) (codes "nights") (λ ns. length ns ≡ 1) (λ ns. All (λ n. (1 ≤ n) × (n ≤ 400)) ns)
+pub stage_nights : IsStage problem_lines IsProblem (first_line ∷ []) (codes "nights") (λ ns. length ns ≡ 1) (λ ns. All (λ n. (1 ≤ n) × (n ≤ MOST_NIGHTS)) ns)
 stage_nights =
     let v : Program = record { rooms = replicate 1 0; stays = [] } in
     record {
@@ -146,11 +146,11 @@ stage_nights =
           (w, from_rooms w, ap (λ l. first_line ∷ l ∷ from_rooms w) is);
       fine = λ v ns more within one e.
           let is = line_injective (codes "nights") (length v.rooms ∷ []) ns (heads (nights_line (length v.rooms)) (line_of (codes "nights") ns) (from_rooms v) more (tails first_line first_line (from_nights v) (line_of (codes "nights") ns ∷ more) e)) in
-          let P : List ℕ → Type 0 = λ ns. All (λ n. (1 ≤ n) × (n ≤ 400)) ns in
+          let P : List ℕ → Type 0 = λ ns. All (λ n. (1 ≤ n) × (n ≤ MOST_NIGHTS)) ns in
           subst P is (one_fine (length v.rooms) (within.limits.some_night, within.limits.nights));
     }
   where
-    one_fine : (n : ℕ) → (1 ≤ n) × (n ≤ 400) → All (λ n. (1 ≤ n) × (n ≤ 400)) (n ∷ [])
+    one_fine : (n : ℕ) → (1 ≤ n) × (n ≤ MOST_NIGHTS) → All (λ n. (1 ≤ n) × (n ≤ MOST_NIGHTS)) (n ∷ [])
     one_fine n fine zero d h = fine
     one_fine n fine (suc k) d h = absurd (omega arith)
 
@@ -160,7 +160,7 @@ rooms_known v n rest e =
     let behind = tails first_line first_line (from_nights v) (nights_line n ∷ rest) e in
     (one_number (codes "nights") (length v.rooms) n (heads (nights_line (length v.rooms)) (nights_line n) (from_rooms v) rest behind), tails (nights_line (length v.rooms)) (nights_line n) (from_rooms v) rest behind)
 
-pub stage_rooms : (n : ℕ) → 1 ≤ n → n ≤ 400 → IsStage problem_lines IsProblem (first_line ∷ nights_line n ∷ []) (codes "rooms") (λ ns. length ns ≡ n) (AreWithin (record { most = n; greatest = 10000 }))
+pub stage_rooms : (n : ℕ) → 1 ≤ n → n ≤ MOST_NIGHTS → IsStage problem_lines IsProblem (first_line ∷ nights_line n ∷ []) (codes "rooms") (λ ns. length ns ≡ n) (AreWithin (record { most = n; greatest = MOST_ROOMS }))
 stage_rooms n positive few =
     let v : Program = record { rooms = replicate n 0; stays = [] } in
     record {
@@ -171,7 +171,7 @@ stage_rooms n positive few =
       fine = λ v ns more within each e.
           let known = rooms_known v n (line_of (codes "rooms") ns ∷ more) e in
           let is = line_injective (codes "rooms") v.rooms ns (heads (rooms_line v.rooms) (rooms_line ns) (from_stays v) more known.1) in
-          let P : List ℕ → Type 0 = λ ns. AreWithin (record { most = n; greatest = 10000 }) ns in
+          let P : List ℕ → Type 0 = λ ns. AreWithin (record { most = n; greatest = MOST_ROOMS }) ns in
           subst P is (omega (arith, known.0), within.rooms);
     }
 
@@ -181,7 +181,7 @@ stays_known v n rooms rest e =
     (line_injective (codes "rooms") v.rooms rooms (heads (rooms_line v.rooms) (rooms_line rooms) (from_stays v) rest known.1), tails (rooms_line v.rooms) (rooms_line rooms) (from_stays v) rest known.1)
 
 pub stage_count : (n : ℕ) (rooms : List ℕ) → IsHead rooms 0 → length rooms ≡ n →
-    IsStage problem_lines IsProblem (first_line ∷ nights_line n ∷ rooms_line rooms ∷ []) (codes "stays") (λ ns. length ns ≡ 1) (λ ns. All (λ k. (0 ≤ k) × (k ≤ 4000)) ns)
+    IsStage problem_lines IsProblem (first_line ∷ nights_line n ∷ rooms_line rooms ∷ []) (codes "stays") (λ ns. length ns ≡ 1) (λ ns. All (λ k. (0 ≤ k) × (k ≤ MOST_STAYS)) ns)
 stage_count n rooms head each =
     let v : Program = record { rooms = rooms; stays = [] } in
     record {
@@ -196,11 +196,11 @@ stage_count n rooms head each =
       fine = λ v ns more within one e.
           let known = stays_known v n rooms (line_of (codes "stays") ns ∷ more) e in
           let is = line_injective (codes "stays") (length v.stays ∷ []) ns (heads (count_line (length v.stays)) (line_of (codes "stays") ns) (stay_lines v.stays) more known.1) in
-          let P : List ℕ → Type 0 = λ ns. All (λ k. (0 ≤ k) × (k ≤ 4000)) ns in
+          let P : List ℕ → Type 0 = λ ns. All (λ k. (0 ≤ k) × (k ≤ MOST_STAYS)) ns in
           subst P is (one_fine (length v.stays) (omega arith, within.limits.stays));
     }
   where
-    one_fine : (k : ℕ) → (0 ≤ k) × (k ≤ 4000) → All (λ k. (0 ≤ k) × (k ≤ 4000)) (k ∷ [])
+    one_fine : (k : ℕ) → (0 ≤ k) × (k ≤ MOST_STAYS) → All (λ k. (0 ≤ k) × (k ≤ MOST_STAYS)) (k ∷ [])
     one_fine k fine zero d h = fine
     one_fine k fine (suc i) d h = absurd (omega arith)
 
@@ -302,3 +302,16 @@ whole_problem rooms stays old mid new head all before gives =
     let P : List Line → Type 0 = λ ls. GivesLines old new ls new.rest in
     let Q : Line → Type 0 = λ l. GivesLine mid new l in
     record { within = problem_within rooms stays head all; gives = subst P (sym lines) (one_more_line old mid new (head_lines rooms (length stays) ++ map stay_line stays) (codes "end") before (subst Q (word_alone (codes "end")) gives)) }
+
+-- one stay behind those so far
+pub one_stay_more : (nights : ℕ) (old mid new : Given) (done after : List Stay) (s : Stay) → after ≡ done ++ s ∷ [] → AreStaysWithin nights done → IsStayWithin nights (stay_numbers s) →
+    GivesLines old mid (map stay_line done) mid.rest → GivesLine mid new (stay_line s) → AreStaysWithin nights after × GivesLines old new (map stay_line after) new.rest
+one_stay_more nights old mid new done after s e all fine so_far gives =
+    let P : List Stay → Type 0 = λ ss. AreStaysWithin nights ss × GivesLines old new (map stay_line ss) new.rest in
+    let lines : map stay_line (done ++ s ∷ []) ≡ map stay_line done ++ stay_line s ∷ [] = map-append stay_line done (s ∷ []) in
+    let Q : List Line → Type 0 = λ ls. GivesLines old new ls new.rest in
+    subst P (sym e) (All-append (λ s. IsStayWithin nights (stay_numbers s)) done (s ∷ []) all one, subst Q (sym lines) (one_more_line old mid new (map stay_line done) (stay_line s) so_far gives))
+  where
+    one : All (λ s. IsStayWithin nights (stay_numbers s)) (s ∷ [])
+    one zero d h = fine
+    one (suc k) d h = absurd (omega arith)

@@ -6,8 +6,11 @@ pub mod Answer
 pub mod Legal
 pub mod Acting
 pub mod Calls
-pub mod Leading
 pub mod Laws
+pub mod Staying
+pub mod Counting
+pub mod Replying
+pub mod Headline
 pub mod Deltas
 pub mod Log
 pub mod Roll

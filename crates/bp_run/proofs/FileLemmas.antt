@@ -3,8 +3,8 @@ use Rattle.std.proofs.Common.{◌≡◌, ℕ, zero, suc, ◌+◌, ◌≤◌, Lis
 use Rattle.std.specs.Option.{ForSome}
 use Rattle.std.specs.FinMap.{get}
 use Rattle.bp_edges.specs.Held.{Files, Fetch}
-use Rattle.bp_cert.specs.declared.text_error.TextError.{TextError}
-use Rattle.bp_cert.specs.declared.text_error.TextError.TheVariants.{BadLine as BadForm, Limit as OutOfLimit, TooShort as EndsEarly, Trailing as GoesOn, Memory as NoMemory}
+use Rattle.bp_text.specs.declared.text_error.TextError.{TextError}
+use Rattle.bp_text.specs.declared.text_error.TextError.TheVariants.{BadLine as BadForm, Limit as OutOfLimit, TooShort as EndsEarly, Trailing as GoesOn, Memory as NoMemory}
 use Rattle.bp_run.specs.Words.{Word}
 use Rattle.bp_run.specs.Files.{Kind, NamedFile, IsGood, IsGoodText, IsAccepted, IsRefused, HasCause}
 use Rattle.bp_run.specs.Fetches.{Fetches, Fails, IsRefusedFor, TookTooMuch, ComesAt}

@@ -1,7 +1,7 @@
 -- Why the files of a task give no value.
 use Rattle.std.specs.Prelude.{◌≡◌, ℕ, List}
-use Rattle.bp_cert.specs.declared.text_error.TextError.{TextError}
-use Rattle.bp_cert.specs.declared.text_error.TextError.TheVariants.{BadLine as BadForm, Limit as OutOfLimit, TooShort as EndsEarly, Trailing as GoesOn, Memory as NoMemory}
+use Rattle.bp_text.specs.declared.text_error.TextError.{TextError}
+use Rattle.bp_text.specs.declared.text_error.TextError.TheVariants.{BadLine as BadForm, Limit as OutOfLimit, TooShort as EndsEarly, Trailing as GoesOn, Memory as NoMemory}
 use Rattle.bp_run.specs.Files.{NamedFile}
 use Rattle.bp_run.specs.Fetches.{Fetches, Fails, IsRefusedFor, ComesAt}
 use Rattle.bp_run.specs.declared.end.Cause.TheVariants.{BadLine, Limit, TooShort, Trailing}

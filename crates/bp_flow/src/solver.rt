@@ -6,7 +6,7 @@ ghost use Rattle.bp_types.specs.Program.{stay_at};
 ghost use Rattle.bp_types.specs.Changes.{changed, Fits};
 ghost use Rattle.bp_residual.specs.Network.{Priced, greatest_rate, nodes};
 ghost use Rattle.bp_flow.specs.Solving.{Solving, priced};
-ghost use Rattle.bp_flow.specs.Solvers.{ColdSoFar, IsSolved, IsSolverOf, CountsSearches, difference};
+ghost use Rattle.bp_flow.specs.Solvers.{ColdSoFar, IsSolvedFlow, IsSolved, IsSolverOf, CountsSearches, difference};
 ghost use Rattle.bp_flow.specs.Settled.{IsSettled, IsSolvable};
 
 use crate::demand::reforecast;
@@ -67,10 +67,19 @@ impl Solver {
     fn empty(alloc: Global, instance: &Instance) -> Result<Solver, Memory>
         ensures { IfOk result (λ s. ColdSoFar instance.now 0 (priced s)) }
     {
-        let nodes = instance.nights() + 1;
         let flow = Flow::empty(alloc, instance.copy(alloc)?)?;
-        let scratch = Scratch::new(alloc, nodes, flow.arcs())?;
         let _nights = flow.nights();
+        Solver::on(alloc, flow)
+    }
+
+    /// A solver on a flow, with memory for its searches.
+    fn on(alloc: Global, flow: Flow) -> Result<Solver, Memory>
+        requires { IsSolvedFlow flow }
+        ensures same { IfOk result (λ s. priced s ≡ flow) }
+        ensures served { IfOk result (λ s. s.served ≡ 0) }
+    {
+        let nodes = flow.nights() + 1;
+        let scratch = Scratch::new(alloc, nodes, flow.arcs())?;
         Ok(Solver { flow, scratch })
     }
 
@@ -92,10 +101,7 @@ impl Solver {
         ensures same { IfOk result (λ s. priced s ≡ priced self.now) }
         ensures served { IfOk result (λ s. s.served ≡ 0) }
     {
-        let flow = self.flow.copy(alloc)?;
-        let nodes = flow.nights() + 1;
-        let scratch = Scratch::new(alloc, nodes, flow.arcs())?;
-        Ok(Solver { flow, scratch })
+        Solver::on(alloc, self.flow.copy(alloc)?)
     }
 
     /// Adds so many units on each night of a span.

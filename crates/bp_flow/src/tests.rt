@@ -194,6 +194,41 @@ fn restarts(rt: HostRuntime) -> Result<(), Fail> {
     Ok(())
 }
 
+/// The optimum of a cold solver, after a change if there is one, and without settling again.
+fn valued<L: Ledger>(
+    alloc: Global,
+    instance: &Instance,
+    change: Option<Change>,
+    blank: Blank,
+) -> Result<u128, Memory>
+    requires name { blank.name ≡ L.name }
+    requires parts { blank.parts ≡ L.parts }
+    requires some { 0 < blank.parts }
+{
+    let mut steps: Steps<L> = Steps::new(blank);
+    let mut solver = Solver::cold(alloc, instance, &mut steps)?;
+    if let Some(change) = change {
+        changed(&mut solver, change, &mut steps);
+    }
+    Ok(solver.value())
+}
+
+#[test]
+fn the_optimum_without_settling(rt: HostRuntime) -> Result<(), Fail> {
+    let alloc = rt.alloc();
+    for (rooms, rows, value, _, _) in &CASES {
+        let instance = instance_of(alloc, rooms, rows)?;
+        let found = valued::<Brand>(alloc, &instance, None, Blank::new(1))?;
+        assert_eq!(rt; found, *value);
+    }
+    let instance = instance_of(alloc, &[2, 1, 2], &FOUR_STAYS)?;
+    for (change, value, _, _) in &RESTARTS {
+        let found = valued::<Brand>(alloc, &instance, Some(*change), Blank::new(1))?;
+        assert_eq!(rt; found, *value);
+    }
+    Ok(())
+}
+
 /// Two nights, and two stays.
 #[derive(Clone, Copy)]
 struct Small {

@@ -1,9 +1,8 @@
 -- What a refusal of a quote names.
 use Rattle.std.specs.Prelude.{ℕ, Bool, nat_lt, slice_index, Option, Some, None}
-use Rattle.std.specs.List.{find}
 use Rattle.bp_types.specs.declared.stay.Span.{Span}
 use Rattle.bp_types.specs.Program.{Program}
-use Rattle.bp_types.specs.Spans.{nights_of}
+use Rattle.bp_types.specs.Spans.{first_short as first_short_of}
 use Rattle.bp_group.specs.declared.error.QuoteError.{QuoteError}
 use Rattle.bp_group.specs.declared.error.QuoteError.TheVariants.{NoRoom, Memory}
 
@@ -17,4 +16,4 @@ abbrev pub is_short : Program → ℕ → ℕ → Bool
 is_short p units n = nat_lt (slice_index p.rooms n) units
 
 abbrev pub first_short : Program → Span → ℕ → Option ℕ
-first_short p s units = find (is_short p units) (nights_of s)
+first_short p s units = first_short_of (slice_index p.rooms) s units

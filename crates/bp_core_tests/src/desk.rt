@@ -5,14 +5,12 @@ ghost use Rattle.bp_types.specs.Changes.{changed, HasUnits};
 ghost use Rattle.bp_types.specs.Spans.{IsSpanWithin};
 ghost use Rattle.bp_types.specs.Claim.{IsCertificateOf};
 ghost use Rattle.bp_core.specs.Acting.{MayCall};
-ghost use Rattle.bp_core.specs.Callers.{may_log};
 ghost use Rattle.bp_core.specs.Instance.{units_left_at, stay_now, instance_of};
-ghost use Rattle.bp_core.specs.Legal.{is_in_range, is_command_in_range};
 ghost use Rattle.bp_core_tests.specs.Desks.{Continues, IsBoardFor, IsQuoteOf};
 
 use bp_board::Board;
 use bp_cert::{Verdict, check};
-use bp_core::{Act, Answer, Book, Call};
+use bp_core::{Act, Answer, Book, Call, is_in_range};
 use bp_types::{Certificate, Change, Command, House, Instance, Limits, Quoted, Span, Stay, law};
 use std::alloc::Global;
 use std::marker::Model;
@@ -26,22 +24,18 @@ pub(crate) type Claimed<'a> = (u128, &'a [u64], &'a [u64]);
 /// A caller, what it does, and what is answered.
 pub(crate) type Row = (u32, Act, Answer);
 
-/// A book beside a second copy of its house. Contracts see what they see of a book.
+/// A book with what a test asks of it. Contracts see what they see of a book.
 #[derive(Drop)]
 pub(crate) struct Desk {
-    house: House,
     book: Book,
 }
 
 impl Model for Desk {
-    ghost use Rattle.std.specs.Prelude.{◌≡◌};
     ghost use Rattle.bp_core.specs.Acting.{Diary};
 
     ghost Value = { Diary };
 
     ghost view = { λ d. d.book };
-
-    ghost invariant = { λ d. d.house ≡ d.book.house };
 }
 
 fn house(
@@ -130,11 +124,10 @@ impl Desk {
         limits: Limits,
         claimed: Claimed<'_>,
     ) -> Result<Desk, Fail> {
-        let twin = house(alloc, rooms, sold, stays, limits)?;
         let house = house(alloc, rooms, sold, stays, limits)?;
         let board = board_of(alloc, &house.instance(alloc)?, 0, claimed)?;
         let book = Book::new(alloc, house, board)?;
-        Ok(Desk { house: twin, book })
+        Ok(Desk { book })
     }
 
     /// The book.
@@ -142,48 +135,6 @@ impl Desk {
         ensures { result.now ≡ self.now }
     {
         &self.book
-    }
-
-    fn may_log(&self, caller: u32, act: Act) -> bool
-        ensures { result ≡ may_log self.now.history caller act }
-    {
-        match act {
-            Act::Enrol => self.book.may_enrol(caller),
-            Act::Leave => caller != 0 && self.book.may_act(caller),
-            _ => self.book.may_act(caller),
-        }
-    }
-
-    fn is_command_in_range(&self, command: Command) -> bool
-        ensures { result ≡ is_command_in_range self.now.house command }
-    {
-        let house = &self.house;
-        match command {
-            Command::Book { stay } => stay < house.stays(),
-            Command::Cancel { nth } => 1 <= nth && nth <= 200_000,
-            Command::Reforecast { stay, count } => stay < house.stays() && count <= 1_000_000,
-            Command::Reprice { stay, rate } => {
-                stay < house.stays() && (1 <= rate && rate <= 1_000_000_000)
-            }
-            Command::Resize { night, rooms } => night < house.nights() && rooms <= 10_000,
-            Command::Group {
-                span,
-                rooms,
-                amount,
-            } => {
-                let numbers = (1 <= rooms && rooms <= 10_000) && amount <= 1_000_000_000_000_000;
-                (span.from < span.to && span.to <= house.nights()) && numbers
-            }
-        }
-    }
-
-    fn is_in_range(&self, act: Act) -> bool
-        ensures { result ≡ is_in_range self.now.house act }
-    {
-        match act {
-            Act::Do(command) => self.is_command_in_range(command),
-            _ => true,
-        }
     }
 
     fn act(&mut self, caller: u32, call: Call) -> Answer
@@ -197,7 +148,7 @@ impl Desk {
     pub(crate) fn ask(&mut self, caller: u32, act: Act) -> Option<Answer>
         ensures { Continues self.old self.new }
     {
-        if !self.may_log(caller, act) || !self.is_in_range(act) {
+        if !self.book.may_log(caller, act) || !is_in_range(self.book.house(), act) {
             return None;
         }
         match act {
@@ -229,7 +180,7 @@ impl Desk {
         ensures { IfOk result (λ u. u ≡ units_left_at self.now.house self.now.history night) }
     {
         let left = self.book.rooms(night).saturating_sub(self.book.sold(night));
-        match self.house.limits().unit.checked_mul(left) {
+        match self.book.house().limits().unit.checked_mul(left) {
             Some(units) => Ok(units),
             None => Err(Fail::new("too many units")),
         }
@@ -239,7 +190,7 @@ impl Desk {
         ensures { IfOk result (λ v. v.items ≡ map (units_left_at self.now.house self.now.history) (range_with_len 0 (length self.now.house.rooms))) }
     {
         let mut left = Vec::new(alloc);
-        for night in 0..self.house.nights() {
+        for night in 0..self.book.house().nights() {
             left.push(self.units_left(night)?)?;
         }
         Ok(left)
@@ -250,7 +201,7 @@ impl Desk {
         ensures { result ≡ stay_now self.now.house self.now.history stay }
     {
         Stay {
-            span: self.house.stay(stay).span,
+            span: self.book.house().stay(stay).span,
             rate: self.book.rate(stay),
             forecast: self.book.forecast(stay),
         }
@@ -260,7 +211,7 @@ impl Desk {
         ensures { IfOk result (λ v. v.items ≡ map (stay_now self.now.house self.now.history) (range_with_len 0 (length self.now.house.stays))) }
     {
         let mut stays = Vec::new(alloc);
-        for stay in 0..self.house.stays() {
+        for stay in 0..self.book.house().stays() {
             stays.push(self.stay_now(stay))?;
         }
         Ok(stays)
@@ -323,7 +274,7 @@ impl Desk {
         ensures { IfOk result (λ q. IsQuoteOf self.now span rooms q) }
     {
         let instance = self.instance(alloc)?;
-        let Some(units) = self.house.limits().unit.checked_mul(rooms) else {
+        let Some(units) = self.book.house().limits().unit.checked_mul(rooms) else {
             return Err(Fail::new("too many units"));
         };
         if span.from >= span.to || span.to > instance.nights() {
@@ -335,7 +286,7 @@ impl Desk {
         let first = optimal(alloc, &instance, before)?;
         let fewer = without(alloc, &instance, span, units)?;
         let last = optimal(alloc, &fewer, after)?;
-        law::certificate_is_optimal();
+        law::certificates_tell_displacement();
         match first.value.checked_sub(last.value) {
             Some(displacement) => Ok(Quoted {
                 position: self.book.length(),
@@ -362,7 +313,7 @@ impl Desk {
             rooms,
             amount,
         };
-        if !self.book.may_act(caller) || !self.is_command_in_range(command) {
+        if !self.book.may_act(caller) || !is_in_range(self.book.house(), Act::Do(command)) {
             return None;
         }
         let quoted = Some(quote);

@@ -4,12 +4,12 @@ use crate::hotel::{
 };
 use bp_core::Act::{Do, Enrol, Leave};
 use bp_core::Answer;
-use bp_core::Answer::{Behind, Logged, Stale, Superseded};
+use bp_core::Answer::{Behind, Logged, PublicationsFull, Stale, Superseded};
 use bp_core::Reply::{
     Accepted, AlreadyCancelled, BelowSold, Cancelled, Done, GroupAccepted, GroupNoRoom,
     GroupTooLow, NoRoom, NotBooked, TooLow, Vector,
 };
-use bp_types::Command::{Book, Cancel, Group, Reprice, Resize};
+use bp_types::Command::{Book, Cancel, Group, Reforecast, Reprice, Resize};
 use bp_types::{Change, Limits, Stay};
 use std::test::Fail;
 
@@ -328,6 +328,81 @@ fn an_older_board_is_superseded(rt: HostRuntime) -> Result<(), Fail> {
         })
     );
     assert_eq!(rt; desk.book().vectors(), 2);
+    Ok(())
+}
+
+const BOOKED_ONCE: [Row; 2] = [
+    (1, Enrol, Logged(Done)),
+    (
+        1,
+        Do(Book { stay: 0 }),
+        Logged(Accepted {
+            vector: 0,
+            sum: 100,
+        }),
+    ),
+];
+
+const SAME_FORECAST: [Row; 1] = [(1, Do(Reforecast { stay: 3, count: 5 }), Logged(Done))];
+
+#[test]
+fn publications_are_full_where_a_vector_would_be_newer(rt: HostRuntime) -> Result<(), Fail> {
+    let alloc = rt.alloc();
+    let mut desk = three_nights(
+        alloc,
+        Limits {
+            publications: 2,
+            ..LIMITS
+        },
+    )?;
+    desk.run(&rt, &BOOKED_ONCE);
+    let last = desk.publish(alloc, 1, AFTER_ONE, 1)?;
+    assert_eq!(rt; last, Some(Logged(Vector { number: 1 })));
+    let again = desk.publish(alloc, 1, AFTER_ONE, 1)?;
+    assert_eq!(rt;
+        again,
+        Some(Superseded {
+            position: 3,
+            changes: 0
+        })
+    );
+    desk.run(&rt, &SAME_FORECAST);
+    let third = desk.publish(alloc, 1, AFTER_ONE, 1)?;
+    assert_eq!(rt; third, Some(PublicationsFull));
+    assert_eq!(rt; desk.book().vectors(), 2);
+    Ok(())
+}
+
+#[test]
+fn a_book_tells_of_itself(rt: HostRuntime) -> Result<(), Fail> {
+    let alloc = rt.alloc();
+    let mut desk = three_nights(alloc, LIMITS)?;
+    desk.run(&rt, &TO_FOUR);
+    desk.run(&rt, &TO_NINE);
+    let book = desk.book();
+    assert_eq!(rt; book.house().nights(), 3);
+    assert_eq!(rt; book.last_board().position(), 0);
+    assert_eq!(rt; book.changes_after(9), 0);
+    assert_eq!(rt; book.changes_after(1_000_000), 0);
+    let given_up = [
+        (1, 1, true),
+        (1, 2, true),
+        (1, 3, false),
+        (1, 4, false),
+        (1, 0, false),
+        (2, 1, false),
+        (65, 1, false),
+    ];
+    for (caller, nth, is) in given_up {
+        assert_eq!(rt; book.is_cancelled(caller, nth), is, "{caller} {nth}");
+    }
+    for place in [1, 2, 1_000_000] {
+        assert!(rt; book.certificate(place).is_none(), "{place}");
+    }
+    match book.certificate(0) {
+        Some(certificate) => assert_eq!(rt; certificate.value, 250),
+        None => return Err(Fail::new("the opening has no certificate")),
+    }
     Ok(())
 }
 

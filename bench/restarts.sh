@@ -22,7 +22,8 @@ cat > "$work/crates/restart_bench/src/main.rt" <<'END'
 #![tactic(auto)]
 
 ghost use Rattle.std.specs.Prelude.{◌≡◌, ℕ, ◌<◌, ◌≤◌, length, slice_index, IsTrue};
-ghost use Rattle.bp_types.specs.Changes.{HasUnits, IsSpanOf};
+ghost use Rattle.bp_types.specs.Spans.{IsSpanWithin};
+ghost use Rattle.bp_types.specs.Changes.{HasUnits};
 ghost use Rattle.bp_flow.specs.Settled.{IsSettled};
 
 use anyhow::bail;
@@ -93,7 +94,7 @@ fn instance_of(alloc: Global, stays: &[Stay]) -> anyhow::Result<Instance> {
 
 /// Whether each night of the span has a room.
 fn has_room(solver: &Solver, span: Span) -> bool
-    requires { IsSpanOf solver.now.flow.program span }
+    requires { IsSpanWithin (length solver.now.flow.program.rooms) span }
     ensures { IsTrue result → HasUnits solver.now.flow.program span 1 }
 {
     for night in span.from..span.to {

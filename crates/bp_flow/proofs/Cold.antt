@@ -1,4 +1,4 @@
--- A solver from nothing, gap by gap.
+-- A solver from nothing, shortage by shortage.
 use Rattle.std.proofs.Common.{◌≡◌, ℕ, ◌+◌, ◌<◌, ◌≤◌, ap, ◌∙◌, sym, subst, arith, List, true, length, slice_index, inl, inr}
 use Rattle.std.proofs.lemmas.Bool.{cases_eq, cases_lt}
 use Rattle.std.proofs.lemmas.List.{same_lists, get_or_default}
@@ -12,7 +12,7 @@ use Rattle.bp_types.proofs.RoomLemmas.{length-rooms_moved, rooms_moved-at, room_
 use Rattle.bp_residual.specs.Network.{Priced, Flow, IsPriced, IsEmptyFlowOf, greatest_rate}
 use Rattle.bp_residual.proofs.Empty.{empty_is_slack, empty_is_balanced}
 use Rattle.bp_flow.specs.Solving.{Solving, priced}
-use Rattle.bp_flow.specs.Solvers.{IsSolvedFlow, IsSolved, ColdSoFar, IsGap, IsSolverOf}
+use Rattle.bp_flow.specs.Solvers.{IsSolvedFlow, IsSolved, ColdSoFar, IsShortage, IsSolverOf}
 use Rattle.bp_flow.specs.Settled.{IsSettled}
 
 pub cold_none : (program copied : Program) (p : Priced) → copied ≡ program → IsPriced p → IsEmptyFlowOf copied p → ColdSoFar program 0 p
@@ -29,9 +29,9 @@ cold_none program copied p same priced made =
 raised : (was : List ℕ) (span : Span) (units n : ℕ) → n < length was → slice_index (rooms_moved was span true units) n ≡ room_moved was span true units n
 raised was span units n h = rooms_moved-at was span true units n 0 h
 
-pub cold_raised : (program : Program) (p q : Priced) (night to units : ℕ) → ColdSoFar program night p → IsGap program p.flow.program.rooms night to units
+pub cold_raised : (program : Program) (p q : Priced) (night to units : ℕ) → ColdSoFar program night p → IsShortage program p.flow.program.rooms night to units
     → q.flow.program ≡ changed p.flow.program (Rooms (record { from = night; to = to }) true units) → IsSolvedFlow q → ColdSoFar program night q
-cold_raised program p q night to units so_far gap is solved =
+cold_raised program p q night to units so_far shortage is solved =
     let was : List ℕ = p.flow.program.rooms in
     let span : Span = record { from = night; to = to } in
     let rooms : q.flow.program.rooms ≡ rooms_moved was span true units = ap (λ (r : Program). r.rooms) is in
@@ -40,24 +40,24 @@ cold_raised program p q night to units so_far gap is solved =
       solved = solved;
       stays = ap (λ (r : Program). r.stays) is ∙ so_far.stays;
       each = ap (λ (xs : List ℕ). length xs) rooms ∙ length-rooms_moved was span true units ∙ so_far.each;
-      done = λ n h. at n (omega (arith, so_far.each, gap.some_night, gap.in_range, h)) ∙ room_moved-before was span true units n h ∙ so_far.done n h;
+      done = λ n h. at n (omega (arith, so_far.each, shortage.some_night, shortage.in_range, h)) ∙ room_moved-before was span true units n h ∙ so_far.done n h;
       no_more = λ n h. elim (cases_lt n night) [
         | inl before ↦ omega (arith, at n (omega (arith, so_far.each, h)), room_moved-before was span true units n before, so_far.no_more n h)
         | inr above ↦ elim (cases_lt n to) [
-          | inl inside ↦ omega (arith, at n (omega (arith, so_far.each, h)), room_moved-inside was span true units n above inside, gap.each n above inside)
+          | inl inside ↦ omega (arith, at n (omega (arith, so_far.each, h)), room_moved-inside was span true units n above inside, shortage.each n above inside)
           | inr past ↦ omega (arith, at n (omega (arith, so_far.each, h)), room_moved-past was span true units n past, so_far.no_more n h)
         ]
       ];
     }
 
--- the first night of the gap has more rooms after a raise
-pub cold_rises : (program : Program) (p q : Priced) (night to units : ℕ) → ColdSoFar program night p → IsGap program p.flow.program.rooms night to units
+-- the first night of the shortage has more rooms after a raise
+pub cold_rises : (program : Program) (p q : Priced) (night to units : ℕ) → ColdSoFar program night p → IsShortage program p.flow.program.rooms night to units
     → q.flow.program ≡ changed p.flow.program (Rooms (record { from = night; to = to }) true units) → slice_index q.flow.program.rooms night ≡ slice_index p.flow.program.rooms night + units
-cold_rises program p q night to units so_far gap is =
+cold_rises program p q night to units so_far shortage is =
     let was : List ℕ = p.flow.program.rooms in
     let span : Span = record { from = night; to = to } in
     let rooms : q.flow.program.rooms ≡ rooms_moved was span true units = ap (λ (r : Program). r.rooms) is in
-    ap (λ xs. slice_index xs night) rooms ∙ raised was span units night (omega (arith, so_far.each, gap.some_night, gap.in_range)) ∙ room_moved-inside was span true units night (omega arith) gap.some_night
+    ap (λ xs. slice_index xs night) rooms ∙ raised was span units night (omega (arith, so_far.each, shortage.some_night, shortage.in_range)) ∙ room_moved-inside was span true units night (omega arith) shortage.some_night
 
 -- a night that lacks nothing more is done
 pub cold_more : (program : Program) (p : Priced) (night : ℕ) → ColdSoFar program night p → night < length program.rooms → slice_index program.rooms night ≤ slice_index p.flow.program.rooms night → ColdSoFar program (night + 1) p

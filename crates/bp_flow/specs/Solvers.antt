@@ -32,7 +32,7 @@ pub record ColdSoFar (program : Program) (night : ℕ) (p : Priced) : Type 0 whe
   pub no_more : (n : ℕ) → n < length program.rooms → slice_index p.flow.program.rooms n ≤ slice_index program.rooms n
 
 -- each night from one up to another lacks so many of the program's rooms, or more
-pub record IsGap (program : Program) (rooms : List ℕ) (from to units : ℕ) : Type 0 where
+pub record IsShortage (program : Program) (rooms : List ℕ) (from to units : ℕ) : Type 0 where
   pub some_night : from < to
   pub in_range : to ≤ length program.rooms
   pub some_units : 1 ≤ units

@@ -6,11 +6,11 @@
 #![tactic(auto)]
 
 mod demand;
-mod gap;
 pub mod law;
 mod moves;
 mod rooms;
 mod settling;
+mod shortage;
 mod solver;
 #[cfg(test)]
 mod tests;

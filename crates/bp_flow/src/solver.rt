@@ -10,11 +10,11 @@ ghost use Rattle.bp_flow.specs.Solvers.{ColdSoFar, IsSolvedFlow, IsSolved, IsSol
 ghost use Rattle.bp_flow.specs.Settled.{IsSettled, IsSolvable};
 
 use crate::demand::reforecast;
-use crate::gap::{Gap, gap_at};
 use crate::law;
 use crate::moves::shift;
 use crate::rooms::{add_rooms, take_rooms};
 use crate::settling::settle_flow;
+use crate::shortage::{Shortage, shortage_at};
 use bp_paths::Scratch;
 use bp_residual::Flow;
 use bp_types::{Certificate, Instance, Memory, Span, Steps};
@@ -91,7 +91,7 @@ impl Solver {
         ensures { ColdSoFar instance.now (night + 1) (priced self.new) }
     {
         while self.rooms(night) < instance.rooms(night) {
-            let Gap { to, units } = gap_at(self, instance, night);
+            let Shortage { to, units } = shortage_at(self, instance, night);
             self.raise(Span { from: night, to }, units, steps);
         }
     }

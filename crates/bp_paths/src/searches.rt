@@ -98,6 +98,13 @@ impl Scratch {
     }
 }
 
+/// The count with one search more, which stays at its greatest number.
+fn one_more(served: u64) -> u64
+    ensures { Serves served result 1 }
+{
+    served.saturating_add(1)
+}
+
 /// The least room of the hops of a path.
 fn bottleneck(flow: &Flow, path: &[Hop]) -> u64
     requires in_range { All (λ h. h.arc < arcs flow.now.flow.program) path.now }
@@ -119,7 +126,7 @@ fn path_to(flow: &Flow, to: u32, labels: &Labels, slots: &mut [Hop]) -> (usize, 
     requires labels { AreLabelsSoFar false flow.now labels.now.from labels.now.count labels.now.kept.items labels.now.rank.items labels.now.via.items }
     requires to { to < nodes flow.now }
     requires near { slice_index labels.now.kept.items to < far }
-    requires settled { 0 < slice_index labels.now.rank.items to }
+    requires closed { 0 < slice_index labels.now.rank.items to }
     requires slots { length slots.old ≡ nodes flow.now }
     ensures start { result.0 ≤ length slots.new }
     ensures path { IsTracedPath flow.now labels.now.kept.items labels.now.rank.items labels.now.from to (drop result.0 slots.new) }
@@ -131,7 +138,9 @@ fn path_to(flow: &Flow, to: u32, labels: &Labels, slots: &mut [Hop]) -> (usize, 
     (start, bottleneck(flow, &slots[start..]))
 }
 
-/// Finds a shortest residual path by reduced cost. Source: Dijkstra's method under potentials.
+/// Finds a shortest residual path by reduced cost: Dijkstra's method under potentials, stopped at the target. In the
+/// worst case its time grows with the square of the nodes, and with the arcs. What an earlier search left in the
+/// scratch is gone.
 pub fn search<L: Ledger>(
     flow: &Flow,
     from: u32,
@@ -149,10 +158,10 @@ pub fn search<L: Ledger>(
     ensures served { Serves scratch.old.served scratch.new.served 1 }
 {
     steps.tick();
-    scratch.served = scratch.served.saturating_add(1);
+    scratch.served = one_more(scratch.served);
     let _nights = flow.nights();
     scratch.labels.begin(flow, false, from);
-    scratch.labels.settle_until(flow, false, Some(to));
+    scratch.labels.close_until(flow, false, Some(to));
     scratch.start = scratch.slots.len();
     if scratch.labels.kept[to as usize] == u128::MAX {
         return Found::Unreached;
@@ -162,7 +171,8 @@ pub fn search<L: Ledger>(
     Found::Reached { units }
 }
 
-/// Finds the distances by reduced cost of all nodes to one node.
+/// Finds the distances by reduced cost of all nodes to one node: the same method against the direction of the hops,
+/// over all nodes. Of an earlier search the scratch keeps nothing.
 pub fn search_to<L: Ledger>(flow: &Flow, to: u32, scratch: &mut Scratch, steps: &mut Steps<L>)
     requires slack { IsSlack flow.now.flow (slice_index flow.now.potentials) }
     requires to { to < nodes flow.now }
@@ -172,9 +182,9 @@ pub fn search_to<L: Ledger>(flow: &Flow, to: u32, scratch: &mut Scratch, steps: 
     ensures served { Serves scratch.old.served scratch.new.served 1 }
 {
     steps.tick();
-    scratch.served = scratch.served.saturating_add(1);
+    scratch.served = one_more(scratch.served);
     let _nights = flow.nights();
     scratch.labels.begin(flow, true, to);
-    scratch.labels.settle_until(flow, true, None);
+    scratch.labels.close_until(flow, true, None);
     scratch.start = scratch.slots.len();
 }

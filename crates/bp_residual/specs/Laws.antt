@@ -27,13 +27,16 @@ PushKeepsSlack =
     (f : Flow) (u : ℕ → ℕ) (s : Step) (units : ℕ) →
     IsFlow f → IsSlack f u → IsTight f.program u s → IsSlack (pushed f s units) u
 
+-- a number for each node that grows over no residual step by more than its reduced cost, as shortest distances do
+abbrev pub GrowsAlong : Flow → (ℕ → ℕ) → (ℕ → ℕ) → Type 0
+GrowsAlong f u by = (s : Step) → Admits f s 1 → by (head f.program s) ≤ by (tail f.program s) + reduced_cost f.program u s
+
 -- potentials raised by no more over a residual step than its reduced cost
 abbrev pub LiftKeepsSlack : Type 0
 LiftKeepsSlack =
     (f : Flow) (u by lifted : ℕ → ℕ) (c : ℕ) →
     IsWithinLimits f.program →
-    IsSlack f u → ((s : Step) → Admits f s 1 → by (head f.program s) ≤ by (tail f.program s) + reduced_cost f.program u s) →
-    ((v : ℕ) → v ≤ length f.program.rooms → lifted v + c ≡ u v + by v) → IsSlack f lifted
+    IsSlack f u → GrowsAlong f u by → ((v : ℕ) → v ≤ length f.program.rooms → lifted v + c ≡ u v + by v) → IsSlack f lifted
 
 -- prices brought down to a limit that no rate exceeds
 abbrev pub LimitKeepsSlack : Type 0
@@ -50,10 +53,6 @@ PathsExist =
     (f : Flow) (from to units : ℕ) →
     IsWithinLimits f.program → IsFlow f → from ≤ length f.program.rooms → to ≤ length f.program.rooms →
     0 < units → HasImbalance f from to units → (path : List Step) × IsPath f from to path
-
--- a number for each node that grows over no residual step by more than its reduced cost, as shortest distances do
-abbrev pub GrowsAlong : Flow → (ℕ → ℕ) → (ℕ → ℕ) → Type 0
-GrowsAlong f u by = (s : Step) → Admits f s 1 → by (head f.program s) ≤ by (tail f.program s) + reduced_cost f.program u s
 
 -- no residual path is shorter than the growth
 abbrev pub GrowthBoundsPaths : Type 0

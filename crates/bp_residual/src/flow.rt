@@ -19,9 +19,12 @@ use std::marker::Model;
 #[derive(Drop)]
 pub struct Flow {
     instance: Instance,
+    /// What the arcs carry: the units of each stay that are sold, and the units of each night that nobody takes.
     sell: Vec<u64>,
     spare: Vec<u64>,
+    /// The sum of the prices from each node's night to the last one.
     potentials: Vec<u64>,
+    /// The hops of each node; no change of the instance moves them.
     network: Network,
 }
 

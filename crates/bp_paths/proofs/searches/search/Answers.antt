@@ -4,48 +4,48 @@ use Rattle.std.specs.Vec.{with_items}
 use Rattle.bp_residual.specs.declared.hop.Hop.{Hop}
 use Rattle.bp_paths.specs.Labels.{IsTracedPath}
 use Rattle.bp_paths.specs.Paths.{AreDistances, AreDistancesUpTo, IsShortestPath, far}
-use Rattle.bp_paths.proofs.Distances.{none_open, near_is_settled}
+use Rattle.bp_paths.proofs.Distances.{none_open, near_is_closed}
 use Rattle.bp_paths.proofs.Answer.{are_distances, are_distances_up_to, is_shortest}
 use Rattle.bp_paths.proofs.searches.search.Goals as goal
 
 pub returns-then-index-clause-found : goal.returns-then-index-clause-found
 returns-then-index-clause-found g c =
-    let kept = c.settle_until.new.self.kept.items in
-    let to_in : c.args.to < length kept = omega (arith, c.settle_until.ensures.labels.2.kept_each, c.requires.to) in
+    let kept = c.close_until.new.self.kept.items in
+    let to_in : c.args.to < length kept = omega (arith, c.close_until.ensures.labels.2.kept_each, c.requires.to) in
     let read = c.index.ensures ∙ get_or_default kept c.args.to c.index.result.now 0 to_in in
     let P : ℕ → Type 0 = λ v. AreDistances c.args.flow.now v kept in
-    let d : AreDistances c.args.flow.now c.args.from kept = subst P (c.settle_until.ensures.from ∙ c.begin.ensures.from) (are_distances c.args.flow.now _ _ _ _ _ c.nights-nights.ensures.priced.limits c.settle_until.ensures.labels (none_open _ _ (slice_index kept c.args.to) c.settle_until.ensures.done (omega (arith, read, c.if-index.true)))) in
+    let d : AreDistances c.args.flow.now c.args.from kept = subst P (c.close_until.ensures.from ∙ c.begin.ensures.from) (are_distances c.args.flow.now _ _ _ _ _ c.nights-nights.ensures.priced.limits c.close_until.ensures.labels (none_open _ _ (slice_index kept c.args.to) c.close_until.ensures.done (omega (arith, read, c.if-index.true)))) in
     ((λ path is. omega (arith, d.unreached c.args.to path c.requires.to is, read, c.if-index.true)), d)
 
 pub path_to-start-requires-clause-near : goal.path_to-start-requires-clause-near
 path_to-start-requires-clause-near g c =
-    let kept = c.settle_until.new.self.kept.items in
-    let to_in : c.args.to < length kept = omega (arith, c.settle_until.ensures.labels.2.kept_each, c.requires.to) in
+    let kept = c.close_until.new.self.kept.items in
+    let to_in : c.args.to < length kept = omega (arith, c.close_until.ensures.labels.2.kept_each, c.requires.to) in
     let read = c.index.ensures ∙ get_or_default kept c.args.to c.index.result.now 0 to_in in
-    omega (arith, read, c.if-index.false, c.settle_until.ensures.labels.2.fits c.args.to c.requires.to)
+    omega (arith, read, c.if-index.false, c.close_until.ensures.labels.2.fits c.args.to c.requires.to)
 
-pub path_to-start-requires-clause-settled : goal.path_to-start-requires-clause-settled
-path_to-start-requires-clause-settled g c =
-    let kept = c.settle_until.new.self.kept.items in
-    let to_in : c.args.to < length kept = omega (arith, c.settle_until.ensures.labels.2.kept_each, c.requires.to) in
+pub path_to-start-requires-clause-closed : goal.path_to-start-requires-clause-closed
+path_to-start-requires-clause-closed g c =
+    let kept = c.close_until.new.self.kept.items in
+    let to_in : c.args.to < length kept = omega (arith, c.close_until.ensures.labels.2.kept_each, c.requires.to) in
     let read = c.index.ensures ∙ get_or_default kept c.args.to c.index.result.now 0 to_in in
-    near_is_settled false c.args.flow.now _ _ (slice_index kept c.args.to) kept _ _ c.settle_until.ensures.labels c.settle_until.ensures.done c.args.to c.requires.to (omega arith) (omega (arith, read, c.if-index.false, c.settle_until.ensures.labels.2.fits c.args.to c.requires.to))
+    near_is_closed false c.args.flow.now _ _ (slice_index kept c.args.to) kept _ _ c.close_until.ensures.labels c.close_until.ensures.done c.args.to c.requires.to (omega arith) (omega (arith, read, c.if-index.false, c.close_until.ensures.labels.2.fits c.args.to c.requires.to))
 
 pub returns-clause-found : goal.returns-clause-found
 returns-clause-found g c =
-    let kept = c.settle_until.new.self.kept.items in
-    let rank = c.settle_until.new.self.rank.items in
-    let to_in : c.args.to < length kept = omega (arith, c.settle_until.ensures.labels.2.kept_each, c.requires.to) in
+    let kept = c.close_until.new.self.kept.items in
+    let rank = c.close_until.new.self.rank.items in
+    let to_in : c.args.to < length kept = omega (arith, c.close_until.ensures.labels.2.kept_each, c.requires.to) in
     let read = c.index.ensures ∙ get_or_default kept c.args.to c.index.result.now 0 to_in in
-    let near : slice_index kept c.args.to < far = omega (arith, read, c.if-index.false, c.settle_until.ensures.labels.2.fits c.args.to c.requires.to) in
+    let near : slice_index kept c.args.to < far = omega (arith, read, c.if-index.false, c.close_until.ensures.labels.2.fits c.args.to c.requires.to) in
     let path : List Hop = drop c.path_to-start.result.0 c.path_to-start.new.slots in
-    let from_is = c.settle_until.ensures.from ∙ c.begin.ensures.from in
+    let from_is = c.close_until.ensures.from ∙ c.begin.ensures.from in
     let P : ℕ → Type 0 = λ v. AreDistancesUpTo c.args.flow.now v (slice_index kept c.args.to) kept in
     let Q : ℕ → Type 0 = λ v. IsTracedPath c.args.flow.now kept rank v c.args.to path in
-    let d : AreDistancesUpTo c.args.flow.now c.args.from (slice_index kept c.args.to) kept = subst P from_is (are_distances_up_to c.args.flow.now _ _ _ _ _ _ c.nights-nights.ensures.priced.limits c.settle_until.ensures.labels c.settle_until.ensures.done near) in
+    let d : AreDistancesUpTo c.args.flow.now c.args.from (slice_index kept c.args.to) kept = subst P from_is (are_distances_up_to c.args.flow.now _ _ _ _ _ _ c.nights-nights.ensures.priced.limits c.close_until.ensures.labels c.close_until.ensures.done near) in
     let slots_len : length c.path_to-start.new.slots ≡ c.scratch.inside.slots.len = search rules in
     let items : (with_items c.scratch.inside.slots c.path_to-start.new.slots).items ≡ c.path_to-start.new.slots = with_items_is c.scratch.inside.slots c.path_to-start.new.slots slots_len in
-    let served : ℕ = c.saturating_add-scratch-inside.result in
+    let served : ℕ = c.one_more-scratch-inside.result in
     let R : List Hop → Type 0 = λ hs. IsShortestPath c.args.flow.now c.args.from c.args.to c.path_to-start.result.1 (record { distances = kept; path = drop c.path_to-start.result.0 hs; served = served }) in
     let found = is_shortest c.args.flow.now c.args.from c.args.to c.path_to-start.result.1 served kept rank path near d (subst Q from_is c.path_to-start.ensures.path) c.path_to-start.ensures.admits c.path_to-start.ensures.some c.path_to-start.ensures.least in
     (subst R (sym items) found, d)

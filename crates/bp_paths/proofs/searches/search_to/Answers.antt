@@ -6,5 +6,5 @@ use Rattle.bp_paths.proofs.searches.search_to.Goals as goal
 
 pub returns-clause-distances : goal.returns-clause-distances
 returns-clause-distances g c =
-    let P : ℕ → Type 0 = λ v. AreDistancesTo c.args.flow.now v c.settle_until.new.self.kept.items in
-    subst P (c.settle_until.ensures.from ∙ c.begin.ensures.from) (are_distances_to c.args.flow.now _ _ _ _ _ c.nights-nights.ensures.priced.limits c.settle_until.ensures.labels (none_open _ _ far c.settle_until.ensures.done (omega arith)))
+    let P : ℕ → Type 0 = λ v. AreDistancesTo c.args.flow.now v c.close_until.new.self.kept.items in
+    subst P (c.close_until.ensures.from ∙ c.begin.ensures.from) (are_distances_to c.args.flow.now _ _ _ _ _ c.nights-nights.ensures.priced.limits c.close_until.ensures.labels (none_open _ _ far c.close_until.ensures.done (omega arith)))

@@ -1,7 +1,6 @@
 -- The text of a certificate, line by line.
 use Rattle.std.proofs.Common.{◌≡◌, ℕ, zero, suc, ◌<◌, ◌≤◌, refl, ap, sym, subst, ◌∙◌, arith, List, [], ◌∷◌, ◌++◌, length, All, append_assoc, length-append}
 use Rattle.std.specs.Prelude.{codes, Err}
-use Rattle.std.proofs.lemmas.List.{append-nil}
 use Rattle.bp_types.specs.Claim.{Claim}
 use Rattle.bp_types.specs.declared.limits.TheConstants.{MOST_NIGHTS, MOST_STAYS}
 use Rattle.bp_cert.specs.declared.claim_text.TheConstants.{MOST_VALUE}
@@ -12,7 +11,7 @@ use Rattle.bp_text.specs.Forms.{AreWithin}
 use Rattle.bp_text.specs.Reading.{Begins, GivesLines, IsReading}
 use Rattle.bp_cert.specs.Texts.{claim_lines, all_certificate_lines, IsSpeakable}
 use Rattle.bp_text.proofs.LineLemmas.{line_injective}
-use Rattle.bp_text.proofs.NextLemmas.{only_number}
+use Rattle.bp_text.proofs.NextLemmas.{only_number, word_alone, no_numbers}
 use Rattle.bp_text.proofs.EndLemmas.{line_in_front}
 use Rattle.bp_cert.proofs.EndsOfTexts.{claim_no_ends, certificate_no_ends, first_line_of_certificate}
 use Rattle.bp_text.proofs.StageLemmas.{IsStage, more_lines}
@@ -149,13 +148,6 @@ refused_claim start old new TooShort before r = record {
 }
 refused_claim start old new (Trailing place) before r = absurd r
 refused_claim start old new Memory before r = (first_line ∷ r.0, line_in_front first_line r.0 first_line_of_certificate r.1, more_lines start old new (first_line ∷ []) r.0 before r.2)
-
-word_alone : (word : List ℕ) → line_of word [] ≡ word
-word_alone word = append-nil word
-
-no_numbers : (ns : List ℕ) → length ns ≡ 0 → ns ≡ []
-no_numbers [] e = refl
-no_numbers (n ∷ ns) e = absurd (omega (arith, e))
 
 pub stage_first : IsStage all_certificate_lines IsSpeakable [] first_line (λ ns. length ns ≡ 0) (λ _. Unit {0})
 stage_first =

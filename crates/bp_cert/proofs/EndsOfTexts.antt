@@ -1,27 +1,11 @@
--- No line of a problem or a certificate has an end in it.
-use Rattle.std.proofs.Common.{refl, List, [], ◌∷◌, ◌++◌, length, All}
+-- No line of a certificate has an end in it.
+use Rattle.std.proofs.Common.{refl, [], ◌∷◌, ◌++◌, All}
 use Rattle.std.specs.Prelude.{codes}
 use Rattle.std.proofs.lemmas.List.Elements.{All-append}
-use Rattle.bp_types.specs.declared.stay.Stay.{Stay}
-use Rattle.bp_types.specs.Program.{Program}
 use Rattle.bp_types.specs.Claim.{Claim}
 use Rattle.bp_text.specs.Lines.{HasNoEnd, line_of}
 use Rattle.bp_text.proofs.EndLemmas.{line_in_front, one_line, word_has_no_end, no_end_in_spelled}
-use Rattle.bp_cert.specs.Texts.{stay_line, stay_numbers, stay_lines, problem_lines, claim_lines, all_certificate_lines}
-
-pub problem_no_ends : (v : Program) → All HasNoEnd (problem_lines v)
-problem_no_ends v =
-    let counted = line_in_front (line_of (codes "stays") (length v.stays ∷ [])) (stay_lines v.stays) (no_end_in_spelled (codes "stays") (length v.stays ∷ []) refl) (stays_no_ends v.stays) in
-    let stays = line_of (codes "stays") (length v.stays ∷ []) ∷ stay_lines v.stays in
-    let rooms = line_of (codes "rooms") v.rooms ∷ stays in
-    let nights = line_of (codes "nights") (length v.rooms ∷ []) ∷ rooms in
-    let behind_nights = line_in_front (line_of (codes "rooms") v.rooms) stays (no_end_in_spelled (codes "rooms") v.rooms refl) counted in
-    let behind_first = line_in_front (line_of (codes "nights") (length v.rooms ∷ [])) rooms (no_end_in_spelled (codes "nights") (length v.rooms ∷ []) refl) behind_nights in
-    line_in_front (codes "problem 1") nights (word_has_no_end (codes "problem 1") refl) behind_first
-  where
-    stays_no_ends : (stays : List Stay) → All HasNoEnd (stay_lines stays)
-    stays_no_ends [] = one_line (codes "end") (word_has_no_end (codes "end") refl)
-    stays_no_ends (s ∷ stays) = line_in_front (stay_line s) (stay_lines stays) (no_end_in_spelled (codes "stay") (stay_numbers s) refl) (stays_no_ends stays)
+use Rattle.bp_cert.specs.Texts.{claim_lines, all_certificate_lines}
 
 pub claim_no_ends : (c : Claim) → All HasNoEnd (claim_lines c)
 claim_no_ends c =

@@ -1,43 +1,12 @@
--- The texts of problems and of certificates can be told apart.
-use Rattle.std.proofs.Common.{◌≡◌, ℕ, refl, ap, sym, ◌∙◌, arith, List, [], ◌∷◌, ◌++◌, length, slice_index, append_assoc}
+-- The texts of certificates can be told apart.
+use Rattle.std.proofs.Common.{◌≡◌, ℕ, ap, sym, ◌∙◌, List, [], ◌∷◌, ◌++◌, slice_index}
 use Rattle.std.specs.Prelude.{codes}
-use Rattle.bp_types.specs.declared.stay.Stay.{Stay}
-use Rattle.bp_types.specs.Program.{Program}
 use Rattle.bp_types.specs.Claim.{Claim}
 use Rattle.bp_text.specs.Lines.{Line, line_of}
-use Rattle.bp_cert.specs.Texts.{stay_line, stay_numbers, head_lines, stay_lines, problem_lines, all_certificate_lines}
+use Rattle.bp_cert.specs.Texts.{all_certificate_lines}
 use Rattle.bp_text.proofs.LineLemmas.{line_injective}
-use Rattle.bp_cert.proofs.EndsOfTexts.{problem_no_ends, certificate_no_ends}
+use Rattle.bp_cert.proofs.EndsOfTexts.{certificate_no_ends}
 use Rattle.bp_text.proofs.SpellingLemmas.{IsSpelling}
-use Rattle.bp_cert.proofs.ProblemLemmas.{head_known}
-
-stays_alone : (xs ys : List Stay) (rest : List Line) → stay_lines ys ≡ stay_lines xs ++ rest → length ys ≡ length xs → (xs ≡ ys) × (rest ≡ [])
-stays_alone [] [] rest e long = let t : [] ≡ rest = cc in (refl, sym t)
-stays_alone [] (y ∷ ys) rest e long = absurd (omega (arith, long))
-stays_alone (x ∷ xs) [] rest e long = absurd (omega (arith, long))
-stays_alone (x ∷ xs) (y ∷ ys) rest e long =
-    let h : stay_line y ≡ stay_line x = cc in
-    let t : stay_lines ys ≡ stay_lines xs ++ rest = cc in
-    let more = stays_alone xs ys rest t (omega (arith, long)) in
-    let numbers = line_injective (codes "stay") (stay_numbers y) (stay_numbers x) h in
-    (ap (λ s. s ∷ xs) (sym (same_stay y x numbers)) ∙ ap (λ ss. y ∷ ss) more.0, more.1)
-  where
-    same_stay : (y x : Stay) → stay_numbers y ≡ stay_numbers x → y ≡ x
-    same_stay y x e =
-        let built : List ℕ → Stay = λ ns. record { span = record { from = slice_index ns 0; to = slice_index ns 1 }; rate = slice_index ns 2; forecast = slice_index ns 3 } in
-        ap built e
-
-problem_alone : (v w : Program) (rest : List Line) → problem_lines w ≡ problem_lines v ++ rest → (v ≡ w) × (rest ≡ [])
-problem_alone v w rest e =
-    let known = head_known w v.rooms (length v.stays) (stay_lines v.stays ++ rest) (e ∙ append_assoc (head_lines v.rooms (length v.stays)) (stay_lines v.stays) rest) in
-    let stays = stays_alone v.stays w.stays rest known.2 known.1 in
-    (same_program v w (sym known.0) stays.0, stays.1)
-  where
-    same_program : (v w : Program) → v.rooms ≡ w.rooms → v.stays ≡ w.stays → v ≡ w
-    same_program v w e f = let built : List ℕ → List Stay → Program = λ rs ss. record { rooms = rs; stays = ss } in ap (λ rs. built rs v.stays) e ∙ ap (built w.rooms) f
-
-pub problems_are_spelled : IsSpelling problem_lines
-problems_are_spelled = record { no_ends = problem_no_ends; alone = problem_alone }
 
 claim_alone : (v w : Claim) (rest : List Line) → all_certificate_lines w ≡ all_certificate_lines v ++ rest → (v ≡ w) × (rest ≡ [])
 claim_alone v w rest e =

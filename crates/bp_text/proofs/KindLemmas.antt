@@ -1,14 +1,14 @@
 -- A kind of text whose reading goes row by row. Which rows may stand behind others, how each is spelt, and that the rows
 -- of a value are those of no other (`IsKind`) is all that a kind has to say. From it follow `is_spelling`, for the laws,
 -- and for its reader `read_more` behind a line that is right, `read_refused` at one that is not, and `read_whole` at the end.
-use Rattle.std.proofs.Common.{◌≡◌, ℕ, zero, suc, ◌+◌, ◌<◌, refl, ap, sym, subst, ◌∙◌, arith, List, [], ◌∷◌, ◌++◌, length, All, append_assoc}
+use Rattle.std.proofs.Common.{◌≡◌, ℕ, zero, suc, refl, ap, sym, subst, ◌∙◌, arith, List, [], ◌∷◌, ◌++◌, All, append_assoc}
 use Rattle.std.specs.Prelude.{Err}
 use Rattle.std.proofs.lemmas.List.{append-nil}
 use Rattle.bp_text.specs.declared.text_error.TextError.{TextError}
 use Rattle.bp_text.specs.declared.text_error.TextError.TheVariants.{BadLine, Limit, TooShort, Trailing, Memory}
 use Rattle.bp_text.specs.Lines.{Line, HasNoEnd, Given, GivesLine, line_of}
 use Rattle.bp_text.specs.Forms.{IsLine}
-use Rattle.bp_text.specs.Reading.{Begins, HasForm, GivesLines, IsReading, Spells}
+use Rattle.bp_text.specs.Reading.{GivesLines, IsReading, Spells}
 use Rattle.bp_text.specs.Places.{IsPlace, IsRefusedLine}
 use Rattle.bp_text.specs.Kinds.{EachRow, row_lines}
 use Rattle.bp_text.proofs.EndLemmas.{line_in_front}
@@ -54,7 +54,6 @@ pub record IsKind {V R : Type 0} (lines : V → List Line) (Within : V → Type 
 module _ {V R : Type 0} (lines : V → List Line) (Within : V → Type 0) (line_at : List R → R → Line) (Form Fine : List R → R → Type 0)
     (left : List R → ℕ) (plain : List R → R) (rows_of : V → List R) (value_of : List R → V)
     (kind : IsKind lines Within line_at Form Fine left plain rows_of value_of) where
-
   -- no line has an end in it, and the rows of one value do not go on behind those of another
 
   rows_have_no_ends : (front rows : List R) → EachRow Form front rows → All HasNoEnd (row_lines line_at front rows)
@@ -163,9 +162,12 @@ module _ {V R : Type 0} (lines : V → List Line) (Within : V → Type 0) (line_
             let row = row_of rows all v line more e in
             (row.0, (EachRow-back Form [] rows (row.0 ∷ row.1) (subst P row.2 (kind.formed v))).0, row.3);
         some = λ line has.
-            let with_row = value_with (rows ++ has.0 ∷ []) (EachRow-append Form [] rows (has.0 ∷ []) all (has.1, tt)) in
-            (with_row.0, row_lines line_at (rows ++ has.0 ∷ []) with_row.1, behind_rows rows with_row.1 has.0 with_row.0 with_row.2
-            ∙ ap (λ l. row_lines line_at [] rows ++ l ∷ row_lines line_at (rows ++ has.0 ∷ []) with_row.1) (sym has.2));
+            let with_row = value_with (rows ++ has.0 ∷ []) (EachRow-append Form [] rows (has.0 ∷ []) all (has.1, tt)) in (
+              with_row.0,
+              row_lines line_at (rows ++ has.0 ∷ []) with_row.1,
+              behind_rows rows with_row.1 has.0 with_row.0 with_row.2
+                  ∙ ap (λ l. row_lines line_at [] rows ++ l ∷ row_lines line_at (rows ++ has.0 ∷ []) with_row.1) (sym has.2),
+            );
         fine = λ v line more inside e. λ r form is.
             let row = row_of rows all v line more e in
             let stands = (EachRow-back Form [] rows (row.0 ∷ row.1) (subst P row.2 (kind.formed v))).0 in

@@ -1,14 +1,18 @@
 -- Numbers and their digits.
 use Rattle.std.proofs.Common.{◌≡◌, ℕ, zero, suc, ◌+◌, ◌-◌, ◌*◌, ◌/◌, ◌%◌, ◌^◌, ◌<◌, ◌≤◌, ap, subst, ◌∙◌, sym, refl, arith, List, [], ◌∷◌, ◌++◌, length, map, take, get_or, slice_index, Option, Some, None, inl, inr, length-append}
 use Rattle.std.specs.Fmt.{decimal}
-use Rattle.std.specs.Int.Digits.{digits_of, number_from_digits, AllBelowBase}
+use Rattle.std.specs.Int.Digits.{digits_of, number_from_digits, number_from_digits_after, AllBelowBase}
 use Rattle.std.proofs.Math.ListN.{length-map}
 use Rattle.std.proofs.lemmas.Bool.{cases_lt, cond-false, ne_eqb}
 use Rattle.std.proofs.lemmas.List.{get_or-map, take_more, take_all, map-append}
 use Rattle.std.proofs.lemmas.Fmt.{decimal_by_steps_wide}
 use Rattle.std.proofs.lemmas.Int.Digits.{digits_of_step, number_more, same_from_digits_of, first_digits_of, all_below_base_digits_of}
 use Rattle.std.specs.Option.{MatchOption}
-use Rattle.bp_text.specs.Numbers.{spelled, IsGreaterBy}
+use Rattle.std.specs.Str.Parse.{AllDigits, digits_value}
+use Rattle.std.proofs.lemmas.Str.Parse.{IsNumeralModel, numerals_by_fold, tells_by_index}
+use Rattle.bp_text.specs.declared.found.Number.{Number}
+use Rattle.bp_text.specs.declared.found.Number.TheVariants.{Bad, Great, Value}
+use Rattle.bp_text.specs.Numbers.{spelled, IsReadAs, AreReadAs, IsGreaterBy}
 
 pub spelled-zero : spelled 0 ≡ 48 ∷ []
 unfolding spelled
@@ -162,11 +166,13 @@ digit_more greatest digit n next (Some v) None e by so_far =
     ]
 digit_more greatest digit n next (Some v) (Some r) e by so_far = (omega (arith, e, by.0, by.1, so_far.0), omega (arith, by.0, by.1))
 
--- what is no number: a byte in it is no digit
-pub no_digit_no_number : (word : List ℕ) (k : ℕ) → k < length word → ((48 ≤ slice_index word k) × (slice_index word k ≤ 57) → ⊥) → (n : ℕ) → word ≡ spelled n → ⊥
-no_digit_no_number word k in_range bad n e =
-    let P : List ℕ → Type 0 = λ w. AreDigits w in
-    bad (subst P (sym e) (spelled_is_digits n) k in_range)
+-- digits by their places, and the number that they write, are those of std
+digits_model : IsNumeralModel AreDigits (λ ds. number_from_digits 10 (map (λ b. b - 48) ds))
+digits_model = numerals_by_fold AreDigits tells_by_index (λ n ds. number_from_digits_after 10 n (map (λ b. b - 48) ds)) (record { empty = λ n. refl; more = λ n c cs h. refl })
+
+-- what is not all digits: a byte in it is none
+pub no_digit : (bytes : List ℕ) (k : ℕ) → k < length bytes → ((48 ≤ slice_index bytes k) × (slice_index bytes k ≤ 57) → ⊥) → AllDigits 10 bytes → ⊥
+no_digit bytes k in_range bad all = bad (digits_model.from bytes all k in_range)
 
 -- a word of digits that has no zero before its number is the spelling of it
 pub word_of_digits : (word : List ℕ) → 0 < length word → (1 < length word → slice_index word 0 ≡ 48 → ⊥) → AreDigits word → word ≡ spelled (number_from_digits 10 (map (λ b. b - 48) word))
@@ -191,17 +197,25 @@ zero_before word long zero_first n e =
 pub nothing_is_no_number : (word : List ℕ) → length word ≡ 0 → (n : ℕ) → word ≡ spelled n → ⊥
 nothing_is_no_number word none n e = omega (arith, spelled_is_some n, ap length e, none)
 
--- what is read of a word once each of its bytes was seen
-pub word_is_read : (word : List ℕ) (greatest i : ℕ) (value : Option ℕ) → 0 < length word → (1 < length word → slice_index word 0 ≡ 48 → ⊥) → length word ≤ i →
-    ((k : ℕ) → k < i → (48 ≤ slice_index word k) × (slice_index word k ≤ 57)) → IsSoFar greatest value (number_from_digits 10 (take i (map (λ b. b - 48) word))) →
-    MatchOption value ((n : ℕ) × (greatest < n) × (word ≡ spelled n)) (λ n. (n ≤ greatest) × (word ≡ spelled n))
-word_is_read word greatest i value some first past digits so_far =
-    let ds = map (λ b. b - 48) word in
-    let all : take i ds ≡ ds = take_all i ds (omega (arith, length-map word (λ b. b - 48))) in
-    let spells = word_of_digits word some first (λ k h. digits k (omega arith)) in
-    by_value value (let P : List ℕ → Type 0 = λ xs. IsSoFar greatest value (number_from_digits 10 xs) in subst P all so_far) spells
+-- what is read of digits once each of them was seen
+pub digits_are_read : (bytes : List ℕ) (greatest i : ℕ) (value : Option ℕ) → length bytes ≤ i → ((k : ℕ) → k < i → (48 ≤ slice_index bytes k) × (slice_index bytes k ≤ 57))
+    → IsSoFar greatest value (number_from_digits 10 (take i (map (λ b. b - 48) bytes)))
+    → MatchOption value (AllDigits 10 bytes × (greatest < digits_value 10 bytes)) (λ n. AllDigits 10 bytes × (n ≡ digits_value 10 bytes) × (n ≤ greatest))
+digits_are_read bytes greatest i value past digits so_far =
+    let ds = map (λ b. b - 48) bytes in
+    let whole : take i ds ≡ ds = take_all i ds (omega (arith, length-map bytes (λ b. b - 48))) in
+    let all : AllDigits 10 bytes = digits_model.to bytes (λ k h. digits k (omega arith)) in
+    by_value value (let P : List ℕ → Type 0 = λ xs. IsSoFar greatest value (number_from_digits 10 xs) in subst P whole so_far) all (digits_model.same bytes all)
   where
-    by_value : (value : Option ℕ) → IsSoFar greatest value (number_from_digits 10 (map (λ b. b - 48) word)) → word ≡ spelled (number_from_digits 10 (map (λ b. b - 48) word)) →
-        MatchOption value ((n : ℕ) × (greatest < n) × (word ≡ spelled n)) (λ n. (n ≤ greatest) × (word ≡ spelled n))
-    by_value None so_far spells = (number_from_digits 10 (map (λ b. b - 48) word), so_far, spells)
-    by_value (Some n) so_far spells = (so_far.1, spells ∙ ap spelled (sym so_far.0))
+    by_value : (value : Option ℕ) → IsSoFar greatest value (number_from_digits 10 (map (λ b. b - 48) bytes)) → AllDigits 10 bytes → number_from_digits 10 (map (λ b. b - 48) bytes) ≡ digits_value 10 bytes
+        → MatchOption value (AllDigits 10 bytes × (greatest < digits_value 10 bytes)) (λ n. AllDigits 10 bytes × (n ≡ digits_value 10 bytes) × (n ≤ greatest))
+    by_value None so_far all same = (all, omega (arith, so_far, same))
+    by_value (Some n) so_far all same = (all, so_far.0 ∙ same, so_far.1)
+
+-- a word that has no zero before its number is read as its digits are
+pub word_is_read : (word : List ℕ) (greatest : ℕ) (r : Number) → 0 < length word → (1 < length word → slice_index word 0 ≡ 48 → ⊥) → AreReadAs word greatest r → IsReadAs word greatest r
+word_is_read word greatest Bad some first bad = λ n e. let P : List ℕ → Type 0 = λ w. AreDigits w in bad (digits_model.to word (subst P (sym e) (spelled_is_digits n)))
+word_is_read word greatest Great some first (all, above) =
+    (digits_value 10 word, above, word_of_digits word some first (digits_model.from word all) ∙ ap spelled (digits_model.same word all))
+word_is_read word greatest (Value n) some first (all, is, small) =
+    (small, word_of_digits word some first (digits_model.from word all) ∙ ap spelled (digits_model.same word all ∙ sym is))

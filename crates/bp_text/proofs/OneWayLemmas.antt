@@ -6,8 +6,8 @@ use Rattle.std.proofs.lemmas.List.{append-nil}
 use Rattle.std.proofs.lemmas.List.Elements.{All-append}
 use Rattle.bp_text.specs.declared.text_error.TextError.{TextError}
 use Rattle.bp_text.specs.declared.text_error.TextError.TheVariants.{BadLine, Limit, TooShort, Trailing, Memory}
-use Rattle.bp_text.specs.Lines.{Line, Given, text_of, HasNoEnd}
-use Rattle.bp_text.specs.Reading.{Begins, HasForm, IsRight, BreaksForm, BreaksLimit, EndsShort, IsTrailed, IsText, start_of}
+use Rattle.bp_text.specs.Lines.{Line, text_of, HasNoEnd}
+use Rattle.bp_text.specs.Reading.{Begins, HasForm, IsRight, IsText}
 use Rattle.bp_text.specs.Laws.{IsReadOneWay}
 use Rattle.bp_text.proofs.EndLemmas.{one_line, no_end_in_front}
 use Rattle.bp_text.proofs.SpellingLemmas.{IsSpelling, same_lines, end_stands, not_behind}
@@ -32,7 +32,6 @@ data Parting (V : Type 0) : Type 0 where
   Short : Parting V
 
 module _ {V : Type 0} (lines : V → List Line) (Within : V → Type 0) (s : IsSpelling lines) (bytes : List ℕ) where
-
   -- the lines of a value stand before the rest
   record IsWhole (v : V) (rest : List ℕ) : Type 0 where
     within : Within v

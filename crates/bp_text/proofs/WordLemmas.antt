@@ -1,6 +1,6 @@
 -- Lines of words: what is joined can be told apart, and is split into itself. A kind whose lines are words cites
 -- `joined_injective`, with `number_lacks` and `word_lacks` for its words, and `split_joined` of a line that it reads.
-use Rattle.std.proofs.Common.{◌≡◌, ◌≢◌, ℕ, zero, suc, ◌+◌, ◌<◌, ◌==◌, cond, refl, ap, ◌∙◌, sym, arith, true, false, List, [], ◌∷◌, ◌++◌, length, map, take, drop, get_or, All, inl, inr}
+use Rattle.std.proofs.Common.{◌≡◌, ◌≢◌, ℕ, zero, suc, ◌+◌, ◌<◌, ◌==◌, refl, ap, ◌∙◌, arith, true, false, List, [], ◌∷◌, ◌++◌, length, map, take, drop, get_or, All, inl, inr}
 use Rattle.std.specs.Prelude.{not}
 use Rattle.std.specs.List.{list_all}
 use Rattle.std.proofs.lemmas.Bool.{ne_eqb, eq-eqb, cond-true, cond-false}

@@ -1,5 +1,5 @@
 -- A kind of text as its stages: which rows may stand behind the rows so far, and the line of each.
-use Rattle.std.specs.Prelude.{ℕ, List, [], ◌∷◌, ◌++◌}
+use Rattle.std.specs.Prelude.{List, [], ◌∷◌, ◌++◌}
 use Rattle.bp_text.specs.Lines.{Line}
 
 -- each row is so behind those before it

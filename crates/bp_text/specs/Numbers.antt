@@ -2,6 +2,7 @@
 use Rattle.std.specs.Prelude.{◌≡◌, ◌≢◌, ℕ, ◌+◌, ◌*◌, ◌<◌, ◌≤◌, ◌==◌, if◌then◌else◌, List, [], ◌∷◌, map, Option, MatchOption}
 use Rattle.std.specs.Option.{SomeIff}
 use Rattle.std.specs.Int.Digits.{digits_of}
+use Rattle.std.specs.Str.Parse.{AllDigits, digits_value}
 use Rattle.bp_text.specs.declared.found.Number.{Number}
 use Rattle.bp_text.specs.declared.found.Number.TheVariants.{Bad, Great, Value}
 
@@ -14,6 +15,12 @@ abbrev pub IsReadAs : List ℕ → ℕ → Number → Type 0
 IsReadAs word greatest Bad = (n : ℕ) → word ≢ spelled n
 IsReadAs word greatest Great = (n : ℕ) × (greatest < n) × (word ≡ spelled n)
 IsReadAs word greatest (Value n) = (n ≤ greatest) × (word ≡ spelled n)
+
+-- what is read of digits, with zeros in front too: bytes that are not all digits, a number above the greatest, or one up to it
+abbrev pub AreReadAs : List ℕ → ℕ → Number → Type 0
+AreReadAs bytes greatest Bad = AllDigits 10 bytes → ⊥
+AreReadAs bytes greatest Great = AllDigits 10 bytes × (greatest < digits_value 10 bytes)
+AreReadAs bytes greatest (Value n) = AllDigits 10 bytes × (n ≡ digits_value 10 bytes) × (n ≤ greatest)
 
 -- a number with one digit more behind it: none where it was none, or where it is above the greatest
 abbrev pub IsGreaterBy : Option ℕ → ℕ → ℕ → Option ℕ → Type 0

@@ -4,7 +4,7 @@ ghost use Rattle.bp_text.specs.Lines.{line_of, numbers_text};
 ghost use Rattle.bp_text.specs.Forms.{IsFound, IsWordAhead, IsKept};
 
 use crate::cursor::length_to;
-use crate::digits::number;
+use crate::decimal::number;
 use crate::found::{Bounds, Found, Number};
 use std::alloc::AllocError;
 

@@ -5,7 +5,7 @@ ghost use Rattle.bp_text.specs.Reading.{seen_as};
 
 use crate::TextError;
 use crate::cursor::Lines;
-use crate::digits::number;
+use crate::decimal::number;
 use crate::found::{Bounds, Found, Number};
 use crate::numbers::{SPACE, behind, numbers_behind};
 

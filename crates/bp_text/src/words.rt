@@ -4,7 +4,7 @@ ghost use Rattle.bp_text.specs.Numbers.{spelled};
 ghost use Rattle.bp_text.specs.Words.{Word, split, IsCounted};
 
 use crate::cursor::length_to;
-use crate::digits::number;
+use crate::decimal::number;
 use crate::found::Number;
 use crate::numbers::SPACE;
 use std::marker::Model;

@@ -1,53 +1,54 @@
-use Rattle.std.proofs.Common.{◌≡◌, ℕ, List, length, subst, sym, arith, ◌∷◌, []}
+use Rattle.std.proofs.Common.{◌≡◌, ℕ, List, length, subst, sym, arith, refl, ◌∷◌, []}
+use Rattle.std.specs.Prelude.{codes}
 use Rattle.std.proofs.lemmas.Result.{err_from_is_err_and}
+use Rattle.bp_text.specs.Lines.{line_of}
 use Rattle.bp_text.specs.Reading.{GivesLines}
-use Rattle.bp_cert.specs.Texts.{problem_lines, IsProblem, IsHead}
-use Rattle.bp_text.proofs.StageLemmas.{refused_at, no_lines, one_more_line}
-use Rattle.bp_cert.proofs.ProblemLemmas.{stage_first, stage_nights, stage_rooms, stage_count, first_line, nights_line, rooms_line, count_line}
+use Rattle.bp_text.proofs.KindLemmas.{numbers_refused}
+use Rattle.bp_cert.proofs.ProblemLemmas.{problem_nothing, problem_more, problem_refused}
 use Rattle.bp_cert.proofs.problem_text.read_head.Goals as goal
 
 pub returns-in_err-word_line : goal.returns-in_err-word_line
 returns-in_err-word_line c =
     let p = err_from_is_err_and c.from_residual.result c.from_residual.ensures.1 in
-    rw (p.1, p.2) (refused_at problem_lines IsProblem _ _ _ _ _ _ _ _ stage_first (no_lines c.args.lines.now) c.in_err-word_line.ensures)
+    rw (p.1, p.2) (problem_refused _ _ _ [] 4 _ (problem_nothing c.args.lines.now) refl (numbers_refused _ _ _ _ _ _ c.in_err-word_line.ensures))
 
 pub returns-in_err-nights : goal.returns-in_err-nights
 returns-in_err-nights c =
     let p = err_from_is_err_and c.from_residual-in_err-nights.result c.from_residual-in_err-nights.ensures.1 in
-    let first = one_more_line _ _ _ _ _ (no_lines c.args.lines.now) c.in_ok-word_line.ensures.2 in
-    rw (p.1, p.2) (refused_at problem_lines IsProblem _ _ _ _ _ _ _ _ stage_nights first c.in_err-nights.ensures)
+    let first = problem_more _ _ _ [] [] (problem_nothing c.args.lines.now) refl tt c.in_ok-word_line.ensures.2 in
+    rw (p.1, p.2) (problem_refused _ _ _ ([] ∷ []) 3 _ first refl (numbers_refused _ _ _ _ _ _ c.in_err-nights.ensures))
 
 pub returns-in_err-exact_line : goal.returns-in_err-exact_line
 returns-in_err-exact_line c =
     let p = err_from_is_err_and c.from_residual-in_err-exact_line.result c.from_residual-in_err-exact_line.ensures.1 in
-    let first = one_more_line _ _ _ _ _ (no_lines c.args.lines.now) c.in_ok-word_line.ensures.2 in
-    let second = one_more_line _ _ _ _ _ first c.in_ok-nights.ensures.2 in
-    let nights = c.in_ok-nights.ensures.1 0 0 (omega arith) in
-    rw (p.1, p.2) (refused_at problem_lines IsProblem _ _ _ _ _ _ _ _ (stage_rooms c.in_ok-nights.nights nights.0 nights.1) second c.in_err-exact_line.ensures)
+    let n : ℕ = c.in_ok-nights.nights in
+    let first = problem_more _ _ _ [] [] (problem_nothing c.args.lines.now) refl tt c.in_ok-word_line.ensures.2 in
+    let second = problem_more _ _ _ ([] ∷ []) (n ∷ []) first refl c.in_ok-nights.ensures.1 c.in_ok-nights.ensures.2 in
+    rw (p.1, p.2) (problem_refused _ _ _ ([] ∷ (n ∷ []) ∷ []) 2 _ second refl (numbers_refused _ _ _ _ _ _ c.in_err-exact_line.ensures))
 
 pub returns-in_err-stays : goal.returns-in_err-stays
 returns-in_err-stays c =
     let p = err_from_is_err_and c.from_residual-in_err-stays.result c.from_residual-in_err-stays.ensures.1 in
-    let first = one_more_line _ _ _ _ _ (no_lines c.args.lines.now) c.in_ok-word_line.ensures.2 in
-    let second = one_more_line _ _ _ _ _ first c.in_ok-nights.ensures.2 in
+    let n : ℕ = c.in_ok-nights.nights in
     let rooms : List ℕ = c.exact_line.new.into.items in
-    let third = one_more_line _ _ _ _ _ second c.in_ok-exact_line.ensures.2 in
-    let nights = c.in_ok-nights.ensures.1 0 0 (omega arith) in
-    let each : length rooms ≡ c.in_ok-nights.nights = c.in_ok-exact_line.ensures.0 in
-    let head : IsHead rooms 0 = record { some_night = omega (arith, nights.0, each); nights = omega (arith, nights.1, each); few_rooms = c.in_ok-exact_line.ensures.1.1; few_stays = omega arith } in
-    rw (p.1, p.2) (refused_at problem_lines IsProblem _ _ _ _ _ _ _ _ (stage_count c.in_ok-nights.nights rooms head each) third c.in_err-stays.ensures)
+    let first = problem_more _ _ _ [] [] (problem_nothing c.args.lines.now) refl tt c.in_ok-word_line.ensures.2 in
+    let second = problem_more _ _ _ ([] ∷ []) (n ∷ []) first refl c.in_ok-nights.ensures.1 c.in_ok-nights.ensures.2 in
+    let third = problem_more _ _ _ ([] ∷ (n ∷ []) ∷ []) rooms second c.in_ok-exact_line.ensures.0 c.in_ok-exact_line.ensures.1 c.in_ok-exact_line.ensures.2 in
+    rw (p.1, p.2) (problem_refused _ _ _ ([] ∷ (n ∷ []) ∷ rooms ∷ []) 1 _ third refl (numbers_refused _ _ _ _ _ _ c.in_err-stays.ensures))
 
 pub returns : goal.returns
 returns c =
-    let first = one_more_line _ _ _ _ _ (no_lines c.args.lines.now) c.in_ok-word_line.ensures.2 in
-    let second = one_more_line _ _ _ _ _ first c.in_ok-nights.ensures.2 in
+    let n : ℕ = c.in_ok-nights.nights in
+    let k : ℕ = c.in_ok-stays.stays in
     let rooms : List ℕ = c.exact_line.new.into.items in
-    let third = one_more_line _ _ _ _ _ second c.in_ok-exact_line.ensures.2 in
-    let fourth = one_more_line _ _ _ _ _ third c.in_ok-stays.ensures.2 in
+    let first = problem_more _ _ _ [] [] (problem_nothing c.args.lines.now) refl tt c.in_ok-word_line.ensures.2 in
+    let second = problem_more _ _ _ ([] ∷ []) (n ∷ []) first refl c.in_ok-nights.ensures.1 c.in_ok-nights.ensures.2 in
+    let third = problem_more _ _ _ ([] ∷ (n ∷ []) ∷ []) rooms second c.in_ok-exact_line.ensures.0 c.in_ok-exact_line.ensures.1 c.in_ok-exact_line.ensures.2 in
+    let fourth = problem_more _ _ _ ([] ∷ (n ∷ []) ∷ rooms ∷ []) (k ∷ []) third refl c.in_ok-stays.ensures.1 c.in_ok-stays.ensures.2 in
     let nights = c.in_ok-nights.ensures.1 0 0 (omega arith) in
     let count = c.in_ok-stays.ensures.1 0 0 (omega arith) in
-    let each : length rooms ≡ c.in_ok-nights.nights = c.in_ok-exact_line.ensures.0 in
-    let P : ℕ → Type 0 = λ n. GivesLines c.args.lines.now c.number_line-2.new.lines (first_line ∷ nights_line n ∷ rooms_line rooms ∷ count_line c.in_ok-stays.stays ∷ []) c.number_line-2.new.lines.rest in (
+    let each : length rooms ≡ n = c.in_ok-exact_line.ensures.0 in
+    let P : ℕ → Type 0 = λ m. GivesLines c.args.lines.now c.number_line-2.new.lines (codes "problem 1" ∷ line_of (codes "nights") (m ∷ []) ∷ line_of (codes "rooms") rooms ∷ line_of (codes "stays") (k ∷ []) ∷ []) c.number_line-2.new.lines.rest in (
       record { some_night = omega (arith, nights.0, each); nights = omega (arith, nights.1, each); few_rooms = c.in_ok-exact_line.ensures.1.1; few_stays = count.1 },
-      subst P (sym each) fourth,
+      subst P (sym each) fourth.gives,
     )

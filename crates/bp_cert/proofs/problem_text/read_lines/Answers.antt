@@ -1,11 +1,11 @@
-use Rattle.std.proofs.Common.{◌≡◌, ℕ, List, length, subst, sym}
+use Rattle.std.proofs.Common.{◌≡◌, ℕ, List, length, subst, sym, arith}
 use Rattle.std.proofs.lemmas.Result.{err_from_is_err_and}
 use Rattle.bp_types.specs.declared.stay.Stay.{Stay}
 use Rattle.bp_types.specs.Program.{Program}
 use Rattle.bp_text.specs.Reading.{GivesLines, Spells}
 use Rattle.bp_cert.specs.Texts.{problem_lines, head_lines, AreStaysWithin, IsProblem, IsHead}
-use Rattle.bp_text.proofs.StageLemmas.{refused_at, more_lines}
-use Rattle.bp_cert.proofs.ProblemLemmas.{stage_end, whole_problem}
+use Rattle.bp_text.proofs.StageLemmas.{more_lines}
+use Rattle.bp_cert.proofs.ProblemLemmas.{stays_read, end_refused, whole_problem}
 use Rattle.bp_cert.proofs.problem_text.read_lines.Goals as goal
 
 pub returns-in_err-stays : goal.returns-in_err-stays
@@ -24,9 +24,9 @@ returns-in_err-word_line c =
     let P : ℕ → Type 0 = λ n. IsHead rooms n in
     let Q : ℕ → Type 0 = λ n. GivesLines c.args.lines.now c.read_head.new.lines (head_lines rooms n) c.read_head.new.lines.rest in
     let R : List ℕ → Type 0 = λ r. AreStaysWithin (length r) stays in
-    rw (p.1, p.2) (refused_at problem_lines IsProblem _ _ _ _ _ _ _ _
-    (stage_end rooms stays (subst P (sym counted) c.in_ok-head.ensures.0) (subst R same c.in_ok-stays.ensures.1))
-    (more_lines _ _ _ _ _ (subst Q (sym counted) c.in_ok-head.ensures.1) c.in_ok-stays.ensures.2) c.in_err-word_line.ensures)
+    rw (p.1, p.2) (end_refused rooms stays _ _ _ _
+    (stays_read rooms (length stays) 0 stays _ _ (subst P (sym counted) c.in_ok-head.ensures.0) (subst R same c.in_ok-stays.ensures.1) (omega arith)
+    (more_lines _ _ _ _ _ (subst Q (sym counted) c.in_ok-head.ensures.1) c.in_ok-stays.ensures.2)) c.in_err-word_line.ensures)
 
 pub returns : goal.returns
 returns c =

@@ -1,7 +1,7 @@
-//! A word that may be a number, digit by digit.
-ghost use Rattle.std.specs.Prelude.{◌≡◌, ◌≢◌, ℕ, ◌+◌, ◌*◌, ◌<◌, ◌≤◌, slice_index, length};
+//! Decimal digits, one by one: the one loop over them.
+ghost use Rattle.std.specs.Prelude.{◌≡◌, ◌≢◌, ℕ, ◌+◌, ◌*◌, ◌<◌, ◌≤◌};
 ghost use Rattle.std.specs.Option.{ForSome, SomeIff};
-ghost use Rattle.bp_text.specs.Numbers.{IsReadAs, IsGreaterBy};
+ghost use Rattle.bp_text.specs.Numbers.{IsReadAs, AreReadAs, IsGreaterBy};
 
 use crate::found::Number;
 
@@ -19,14 +19,12 @@ pub fn number(word: &[u8], greatest: u128) -> Number
     digits(word, greatest)
 }
 
-/// Reads a word that has no zero before its number.
-fn digits(word: &[u8], greatest: u128) -> Number
-    requires some { 0 < length word.now }
-    requires first { 1 < length word.now → slice_index word.now 0 ≢ 48 }
-    ensures { IsReadAs word.now greatest result }
+/// Reads decimal digits as a number up to a greatest one; no digits are 0. Zeros may stand in front.
+pub fn digits(bytes: &[u8], greatest: u128) -> Number
+    ensures { AreReadAs bytes.now greatest result }
 {
     let mut value = Some(0);
-    for byte in word {
+    for byte in bytes {
         if *byte < b'0' || *byte > b'9' {
             return Number::Bad;
         }

@@ -4,14 +4,14 @@ use Rattle.std.specs.Int.Digits.{number_from_digits}
 use Rattle.std.proofs.Math.ListN.{length-map}
 use Rattle.std.proofs.lemmas.List.{get_or-map}
 use Rattle.std.proofs.lemmas.Int.Digits.{number_more}
-use Rattle.bp_text.specs.Numbers.{spelled}
-use Rattle.bp_text.proofs.NumberLemmas.{no_digit_no_number, digit_more, word_is_read}
-use Rattle.bp_text.proofs.digits.digits.Goals as goal
-use Rattle.bp_text.proofs.digits.digits.Goals.{then-byte-lt48-via-then-byte-lt48, then-byte-lt48-via-else-byte-lt48+then-byte-gt57}
+use Rattle.std.specs.Str.Parse.{AllDigits, digits_value}
+use Rattle.bp_text.proofs.NumberLemmas.{no_digit, digit_more, digits_are_read}
+use Rattle.bp_text.proofs.decimal.digits.Goals as goal
+use Rattle.bp_text.proofs.decimal.digits.Goals.{then-byte-lt48-via-then-byte-lt48, then-byte-lt48-via-else-byte-lt48+then-byte-gt57}
 
 pub returns-then-byte-lt48 : goal.returns-then-byte-lt48
 returns-then-byte-lt48 c =
-    no_digit_no_number c.args.word.now c.loop-byte.byte-index c.loop-byte-test.true (λ h.
+    no_digit c.args.bytes.now c.loop-byte.byte-index c.loop-byte-test.true (λ h.
     elim c.then-byte-lt48.branch [
       | then-byte-lt48-via-then-byte-lt48 w ↦ omega (arith, h.0)
       | then-byte-lt48-via-else-byte-lt48+then-byte-gt57 w ↦ omega (arith, h.1)
@@ -19,7 +19,7 @@ returns-then-byte-lt48 c =
 
 pub loop-byte-preserved : goal.loop-byte-preserved
 loop-byte-preserved c =
-    let word = c.args.word.now in
+    let word = c.args.bytes.now in
     let i = c.loop-byte.byte-index in
     let ds : List ℕ = map (λ b. b - 48) word in
     let here : i < length word = c.loop-byte-test.true in
@@ -32,12 +32,12 @@ loop-byte-preserved c =
 
 pub returns-in-Some : goal.returns-in-Some
 returns-in-Some c =
-    let word = c.args.word.now in
-    let P : Option ℕ → Type 0 = λ v. MatchOption v ((n : ℕ) × (c.args.greatest < n) × (word ≡ spelled n)) (λ n. (n ≤ c.args.greatest) × (word ≡ spelled n)) in
-    subst P c.in-Some.is (word_is_read word c.args.greatest c.loop-byte.byte-index c.loop-byte.value c.requires.some c.requires.first c.loop-byte-test.false c.loop-byte.invariant.digits c.loop-byte.invariant.number)
+    let bytes = c.args.bytes.now in
+    let P : Option ℕ → Type 0 = λ v. MatchOption v (AllDigits 10 bytes × (c.args.greatest < digits_value 10 bytes)) (λ n. AllDigits 10 bytes × (n ≡ digits_value 10 bytes) × (n ≤ c.args.greatest)) in
+    subst P c.in-Some.is (digits_are_read bytes c.args.greatest c.loop-byte.byte-index c.loop-byte.value c.loop-byte-test.false c.loop-byte.invariant.digits c.loop-byte.invariant.number)
 
 pub returns-in-None : goal.returns-in-None
 returns-in-None c =
-    let word = c.args.word.now in
-    let P : Option ℕ → Type 0 = λ v. MatchOption v ((n : ℕ) × (c.args.greatest < n) × (word ≡ spelled n)) (λ n. (n ≤ c.args.greatest) × (word ≡ spelled n)) in
-    subst P c.in-None.is (word_is_read word c.args.greatest c.loop-byte.byte-index c.loop-byte.value c.requires.some c.requires.first c.loop-byte-test.false c.loop-byte.invariant.digits c.loop-byte.invariant.number)
+    let bytes = c.args.bytes.now in
+    let P : Option ℕ → Type 0 = λ v. MatchOption v (AllDigits 10 bytes × (c.args.greatest < digits_value 10 bytes)) (λ n. AllDigits 10 bytes × (n ≡ digits_value 10 bytes) × (n ≤ c.args.greatest)) in
+    subst P c.in-None.is (digits_are_read bytes c.args.greatest c.loop-byte.byte-index c.loop-byte.value c.loop-byte-test.false c.loop-byte.invariant.digits c.loop-byte.invariant.number)

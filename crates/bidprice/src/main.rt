@@ -2,21 +2,20 @@
 #![tactic(auto)]
 
 ghost use Rattle.std.specs.Prelude.{◌≡◌, ◌⊎◌};
-ghost use Rattle.std.specs.Process.{exit_status};
 ghost use Rattle.bp_run.specs.Words.{texts};
-ghost use Rattle.bp_run.specs.Statuses.{status_number};
 ghost use Rattle.bp_run.specs.Ends.{ServesUnseen};
 ghost use Rattle.bp_run.specs.declared.status.Status.TheVariants.{NotPlain, NoMemory};
-ghost use Rattle.bidprice.specs.Exits.{IsExit};
 
 use bp_edges::{FileShelf, NoGate, OutSink};
 use bp_run::Status;
+use exit::Exit;
 use std::env::Env;
-use std::process::ExitCode;
 use std::rt::Files;
 use std::sync::Wait;
 use std::thread::Threads;
 use std::{env, io};
+
+mod exit;
 
 // The words behind the program's name.
 fn words<R: Env + AllocGlobal>(rt: &R) -> io::Result<Vec<String>> {
@@ -38,7 +37,7 @@ fn no_words(error: &io::Error) -> Status
     }
 }
 
-// Does the line of these words over real files and standard output.
+// Does the line of these words over real files and standard output, and gives the number of its status.
 fn serve<R: Files + Print + AllocGlobal + Wait + Threads + Sync>(rt: &R, words: &[String]) -> u8
     ensures { ServesUnseen (texts words.now) result }
 {
@@ -47,12 +46,10 @@ fn serve<R: Files + Print + AllocGlobal + Wait + Threads + Sync>(rt: &R, words: 
     bp_run::run(rt, rt.alloc(), words, &mut shelf, &mut out, &NoGate)
 }
 
-fn main(rt: HostRuntime) -> ExitCode
-    ensures { IsExit (exit_status result) }
-{
+fn main(rt: HostRuntime) -> Exit {
     let number = match words(&rt) {
         Ok(words) => serve(&rt, &words),
         Err(error) => no_words(&error).number(),
     };
-    ExitCode::from(number)
+    Exit { number }
 }

@@ -3,16 +3,17 @@ use Rattle.std.proofs.Common.{◌≡◌, ℕ, zero, suc, ◌<◌, ◌≤◌, ◌
 use Rattle.std.specs.Prelude.{codes, Err}
 use Rattle.std.proofs.lemmas.List.{append-nil}
 use Rattle.bp_types.specs.Claim.{Claim}
-use Rattle.bp_cert.specs.declared.text_error.TextError.{TextError}
-use Rattle.bp_cert.specs.declared.text_error.TextError.TheVariants.{BadLine, Limit, TooShort, Trailing, Memory}
-use Rattle.bp_cert.specs.Lines.{Line, Given, line_of}
-use Rattle.bp_cert.specs.Forms.{AreWithin}
-use Rattle.bp_cert.specs.Reading.{Begins, GivesLines, IsReading}
+use Rattle.bp_text.specs.declared.text_error.TextError.{TextError}
+use Rattle.bp_text.specs.declared.text_error.TextError.TheVariants.{BadLine, Limit, TooShort, Trailing, Memory}
+use Rattle.bp_text.specs.Lines.{Line, Given, line_of}
+use Rattle.bp_text.specs.Forms.{AreWithin}
+use Rattle.bp_text.specs.Reading.{Begins, GivesLines, IsReading}
 use Rattle.bp_cert.specs.Texts.{claim_lines, all_certificate_lines, IsSpeakable}
-use Rattle.bp_cert.proofs.LineLemmas.{line_injective}
-use Rattle.bp_cert.proofs.NextLemmas.{only_number}
-use Rattle.bp_cert.proofs.EndLemmas.{line_in_front, claim_no_ends, certificate_no_ends, first_line_of_certificate}
-use Rattle.bp_cert.proofs.StageLemmas.{IsStage, more_lines}
+use Rattle.bp_text.proofs.LineLemmas.{line_injective}
+use Rattle.bp_text.proofs.NextLemmas.{only_number}
+use Rattle.bp_text.proofs.EndLemmas.{line_in_front}
+use Rattle.bp_cert.proofs.EndsOfTexts.{claim_no_ends, certificate_no_ends, first_line_of_certificate}
+use Rattle.bp_text.proofs.StageLemmas.{IsStage, more_lines}
 
 heads : (a b : Line) (xs ys : List Line) → a ∷ xs ≡ b ∷ ys → a ≡ b
 heads a b xs ys e = cc

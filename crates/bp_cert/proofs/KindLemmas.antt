@@ -1,16 +1,14 @@
 -- The texts of problems and of certificates can be told apart.
-use Rattle.std.proofs.Common.{◌≡◌, ℕ, zero, suc, refl, ap, sym, ◌∙◌, arith, true, false, List, [], ◌∷◌, ◌++◌, length, All, get_or, slice_index, append_assoc, ◌==◌}
-use Rattle.std.specs.Prelude.{codes, not}
-use Rattle.std.specs.List.{list_all}
-use Rattle.std.proofs.lemmas.List.Sums.{AllPass-from_list_all}
+use Rattle.std.proofs.Common.{◌≡◌, ℕ, refl, ap, sym, ◌∙◌, arith, List, [], ◌∷◌, ◌++◌, length, slice_index, append_assoc}
+use Rattle.std.specs.Prelude.{codes}
 use Rattle.bp_types.specs.declared.stay.Stay.{Stay}
 use Rattle.bp_types.specs.Program.{Program}
 use Rattle.bp_types.specs.Claim.{Claim}
-use Rattle.bp_cert.specs.Lines.{Line, HasNoEnd, line_of}
+use Rattle.bp_text.specs.Lines.{Line, line_of}
 use Rattle.bp_cert.specs.Texts.{stay_line, stay_numbers, head_lines, stay_lines, problem_lines, all_certificate_lines}
-use Rattle.bp_cert.proofs.LineLemmas.{line_injective, no_end_in_line}
-use Rattle.bp_cert.proofs.EndLemmas.{problem_no_ends, certificate_no_ends}
-use Rattle.bp_cert.proofs.SpellingLemmas.{IsSpelling}
+use Rattle.bp_text.proofs.LineLemmas.{line_injective}
+use Rattle.bp_cert.proofs.EndsOfTexts.{problem_no_ends, certificate_no_ends}
+use Rattle.bp_text.proofs.SpellingLemmas.{IsSpelling}
 use Rattle.bp_cert.proofs.ProblemLemmas.{head_known}
 
 stays_alone : (xs ys : List Stay) (rest : List Line) → stay_lines ys ≡ stay_lines xs ++ rest → length ys ≡ length xs → (xs ≡ ys) × (rest ≡ [])

@@ -1,14 +1,6 @@
 pub mod VerdictLemmas
 pub mod LoadLemmas
-pub mod NumberLemmas
-pub mod LineLemmas
-pub mod FormLemmas
-pub mod NextLemmas
-pub mod EndLemmas
-pub mod StageLemmas
+pub mod EndsOfTexts
 pub mod ProblemLemmas
-pub mod WholeLemmas
 pub mod ClaimLemmas
-pub mod SpellingLemmas
-pub mod OneWayLemmas
 pub mod KindLemmas

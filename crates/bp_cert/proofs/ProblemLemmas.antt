@@ -6,14 +6,14 @@ use Rattle.std.proofs.lemmas.List.Elements.{All-append}
 use Rattle.bp_types.specs.declared.stay.Stay.{Stay}
 use Rattle.bp_types.specs.Program.{Program, no_stay}
 use Rattle.bp_types.specs.Limits.{most_nights}
-use Rattle.bp_cert.specs.Lines.{Line, Given, GivesLine, line_of}
-use Rattle.bp_cert.specs.Forms.{AreWithin}
-use Rattle.bp_cert.specs.Reading.{GivesLines, Spells}
+use Rattle.bp_text.specs.Lines.{Line, Given, GivesLine, line_of}
+use Rattle.bp_text.specs.Forms.{AreWithin}
+use Rattle.bp_text.specs.Reading.{GivesLines, Spells}
 use Rattle.bp_cert.specs.Texts.{stay_numbers, stay_line, head_lines, stay_lines, problem_lines, IsProblem, IsStayWithin, AreStaysWithin, IsHead}
-use Rattle.bp_cert.proofs.LineLemmas.{line_injective}
-use Rattle.bp_cert.proofs.NextLemmas.{only_number}
-use Rattle.bp_cert.proofs.EndLemmas.{problem_no_ends}
-use Rattle.bp_cert.proofs.StageLemmas.{IsStage, one_more_line}
+use Rattle.bp_text.proofs.LineLemmas.{line_injective}
+use Rattle.bp_text.proofs.NextLemmas.{only_number}
+use Rattle.bp_cert.proofs.EndsOfTexts.{problem_no_ends}
+use Rattle.bp_text.proofs.StageLemmas.{IsStage, one_more_line}
 
 no_numbers : (ns : List ℕ) → length ns ≡ 0 → ns ≡ []
 no_numbers [] e = refl
@@ -302,3 +302,16 @@ whole_problem rooms stays old mid new head all before gives =
     let P : List Line → Type 0 = λ ls. GivesLines old new ls new.rest in
     let Q : Line → Type 0 = λ l. GivesLine mid new l in
     record { within = problem_within rooms stays head all; gives = subst P (sym lines) (one_more_line old mid new (head_lines rooms (length stays) ++ map stay_line stays) (codes "end") before (subst Q (word_alone (codes "end")) gives)) }
+
+-- one stay behind those so far
+pub one_stay_more : (nights : ℕ) (old mid new : Given) (done after : List Stay) (s : Stay) → after ≡ done ++ s ∷ [] → AreStaysWithin nights done → IsStayWithin nights (stay_numbers s) →
+    GivesLines old mid (map stay_line done) mid.rest → GivesLine mid new (stay_line s) → AreStaysWithin nights after × GivesLines old new (map stay_line after) new.rest
+one_stay_more nights old mid new done after s e all fine so_far gives =
+    let P : List Stay → Type 0 = λ ss. AreStaysWithin nights ss × GivesLines old new (map stay_line ss) new.rest in
+    let lines : map stay_line (done ++ s ∷ []) ≡ map stay_line done ++ stay_line s ∷ [] = map-append stay_line done (s ∷ []) in
+    let Q : List Line → Type 0 = λ ls. GivesLines old new ls new.rest in
+    subst P (sym e) (All-append (λ s. IsStayWithin nights (stay_numbers s)) done (s ∷ []) all one, subst Q (sym lines) (one_more_line old mid new (map stay_line done) (stay_line s) so_far gives))
+  where
+    one : All (λ s. IsStayWithin nights (stay_numbers s)) (s ∷ [])
+    one zero d h = fine
+    one (suc k) d h = absurd (omega arith)

@@ -1,8 +1,8 @@
 pub mod Verdicts
 pub mod Loads
-pub mod Numbers
-pub mod Lines
-pub mod Forms
-pub mod Reading
 pub mod Texts
-pub mod Laws
+pub use Rattle.bp_text.specs.Numbers
+pub use Rattle.bp_text.specs.Lines
+pub use Rattle.bp_text.specs.Forms
+pub use Rattle.bp_text.specs.Reading
+pub use Rattle.bp_text.specs.Laws

@@ -5,7 +5,7 @@ use Rattle.bp_types.specs.Program.{Program}
 use Rattle.bp_types.specs.Limits.{IsWithinLimits, most_nights, most_stays, most_rate, most_forecast}
 use Rattle.bp_types.specs.House.{most_house_rooms}
 use Rattle.bp_types.specs.Claim.{Claim}
-use Rattle.bp_cert.specs.Lines.{Line, line_of, text_of}
+use Rattle.bp_text.specs.Lines.{Line, line_of, text_of}
 
 -- the numbers of a stay: its first night, the night after its last, its rate and its forecast
 abbrev pub stay_numbers : Stay → List ℕ

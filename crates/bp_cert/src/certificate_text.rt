@@ -1,49 +1,15 @@
+//! The text of a certificate.
 ghost use Rattle.std.specs.Prelude.{◌≡◌, ◌+◌, ◌≤◌, IfOk, IsErrOf};
 ghost use Rattle.bp_edges.specs.Counts.{Rose};
 ghost use Rattle.bp_edges.specs.Writing.{Writes};
-ghost use Rattle.bp_cert.specs.Reading.{IsReading, IsText};
-ghost use Rattle.bp_cert.specs.Texts.{claim_lines, all_certificate_lines, certificate_text, IsSpeakable};
+ghost use Rattle.bp_text.specs.Reading.{IsReading, IsText};
+ghost use Rattle.bp_cert.specs.Texts.{all_certificate_lines, certificate_text, IsSpeakable};
 
-use crate::TextError;
-use crate::lines::Lines;
-use crate::lines::form::Bounds;
-use crate::lines::next::{at_end, open_line, wide_number_line, word_line};
-use crate::lines::spell::push_line;
-use crate::lines::write::{push_claim, write_text};
+use crate::claim_text::{certificate_lines, push_claim};
 use bp_edges::{Sink, WriteError};
+use bp_text::{Lines, TextError, at_end, push_line, word_line, write_text};
 use bp_types::Certificate;
 use std::alloc::{AllocError, Global};
-
-const MOST_VALUE: u128 = 1_000_000_000_000_000_000_000_000_000_000;
-
-const SALES: Bounds = Bounds {
-    most: 4_000,
-    greatest: u64::MAX,
-};
-
-const PRICES: Bounds = Bounds {
-    most: 400,
-    greatest: u64::MAX,
-};
-
-/// Reads the three lines of a certificate that say what it claims: `value`, `sell` and `prices`.
-///
-/// After a refusal the lines before the refused one were given, and the refused one where it has its end.
-pub fn certificate_lines(alloc: Global, lines: &mut Lines<'_>) -> Result<Certificate, TextError>
-    ensures read { IsReading claim_lines IsSpeakable lines.old lines.new result }
-    ensures few { lines.new.given ≤ lines.old.given + 3 }
-{
-    let value = wide_number_line(lines, b"value", MOST_VALUE)?;
-    let mut sell = Vec::new(alloc);
-    open_line(lines, b"sell", SALES, &mut sell)?;
-    let mut prices = Vec::new(alloc);
-    open_line(lines, b"prices", PRICES, &mut prices)?;
-    Ok(Certificate {
-        value,
-        sell,
-        prices,
-    })
-}
 
 fn read_lines(alloc: Global, lines: &mut Lines<'_>) -> Result<Certificate, TextError>
     ensures { IsReading all_certificate_lines IsSpeakable lines.old lines.new result }

@@ -1,7 +1,7 @@
 //! Laws over the texts, as the contracts of functions that do nothing.
 
 ghost use Rattle.bp_cert.specs.Texts.{problem_lines, all_certificate_lines, IsProblem, IsSpeakable};
-ghost use Rattle.bp_cert.specs.Laws.{HasOneSpelling, IsPrefixFree, IsReadOneWay};
+ghost use Rattle.bp_text.specs.Laws.{HasOneSpelling, IsPrefixFree, IsReadOneWay};
 
 /// No two problems have one text, and none goes on behind another; bytes are read as a problem in one way.
 pub fn problems_have_one_spelling()

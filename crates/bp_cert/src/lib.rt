@@ -2,16 +2,16 @@
 #![tactic(auto)]
 
 mod certificate_text;
+mod claim_text;
 pub mod law;
 pub mod lines;
 mod loads;
 mod problem_text;
 #[cfg(test)]
 mod tests;
-mod text_error;
 mod verdict;
 
+pub use bp_text::TextError;
 pub use certificate_text::{read_certificate, text_of_certificate, write_certificate};
 pub use problem_text::read_problem;
-pub use text_error::TextError;
 pub use verdict::{Verdict, check};

@@ -1,14 +1,12 @@
+//! The text of a problem.
 ghost use Rattle.std.specs.Prelude.{◌≡◌, ◌≤◌, length, map, codes, MatchResult, Err};
 ghost use Rattle.bp_types.specs.Program.{Program};
-ghost use Rattle.bp_cert.specs.Reading.{IsReading, IsText, GivesLines, seen_as};
-ghost use Rattle.bp_cert.specs.Forms.{IsLine};
+ghost use Rattle.bp_text.specs.Reading.{IsReading, IsText, GivesLines, seen_as};
+ghost use Rattle.bp_text.specs.Forms.{IsLine};
 ghost use Rattle.bp_cert.specs.Texts.{problem_lines, head_lines, stay_line, stay_numbers, IsProblem, IsHead, IsStayWithin, AreStaysWithin};
-ghost use Rattle.bp_cert.specs.Lines.{Given};
+ghost use Rattle.bp_text.specs.Lines.{Given};
 
-use crate::TextError;
-use crate::lines::Lines;
-use crate::lines::form::Bounds;
-use crate::lines::next::{at_end, exact_line, number_line, word_line};
+use bp_text::{Bounds, Lines, TextError, at_end, exact_line, number_line, word_line};
 use bp_types::{Instance, Span, Stay};
 use std::alloc::Global;
 

@@ -33,3 +33,13 @@ pub mod Causes
 pub mod LineLeads
 pub mod Between
 pub mod EveryList
+pub mod Growing
+pub mod Joining
+pub mod Quietly
+pub mod Vectors
+pub mod Certificates
+pub mod Leaving
+pub mod Adding
+pub mod Saying
+pub mod Promising
+pub mod GivenUps

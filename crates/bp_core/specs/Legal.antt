@@ -4,7 +4,8 @@ use Rattle.bp_types.specs.declared.command.Command.{Command}
 use Rattle.bp_types.specs.declared.command.Command.TheVariants.{Book, Cancel, Reforecast, Reprice, Resize, Group}
 use Rattle.bp_types.specs.Claim.{Claim}
 use Rattle.bp_types.specs.Program.{Program}
-use Rattle.bp_types.specs.Limits.{is_within, is_rate, most_forecast}
+use Rattle.bp_types.specs.Spans.{is_within}
+use Rattle.bp_types.specs.Limits.{is_rate, most_forecast}
 use Rattle.bp_types.specs.Optimum.{Certifies}
 use Rattle.bp_types.specs.House.{Inn, is_from_one, most_house_rooms, most_entries}
 use Rattle.bp_core.specs.declared.line.Act.{Act}

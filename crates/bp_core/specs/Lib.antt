@@ -8,6 +8,10 @@ pub mod Acting
 pub mod Calls
 pub mod Leading
 pub mod Laws
+pub mod Staying
+pub mod Counting
+pub mod Replying
+pub mod Headline
 pub mod Deltas
 pub mod Log
 pub mod Roll

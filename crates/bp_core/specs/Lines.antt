@@ -1,5 +1,5 @@
 -- The lines of a history, oldest first, and what is asked of the whole list.
-use Rattle.std.specs.Prelude.{ℕ, ◌-◌, Bool, true, false, ◌&&◌, ◌==◌, if◌then◌else◌, List, [], ◌∷◌, filter, count_by, slice_index_or, slice_get, Option, Some, None, is_some, unwrap_or}
+use Rattle.std.specs.Prelude.{ℕ, ◌-◌, Bool, true, false, ◌&&◌, ◌==◌, if◌then◌else◌, List, [], ◌∷◌, filter, count_by, slice_index_or, slice_get, Option, Some, None, is_some, unwrap_or, option_and_then}
 use Rattle.std.specs.List.{list_any, filter_map}
 use Rattle.std.specs.Option.{option_map}
 use Rattle.bp_types.specs.declared.command.Command.{Command}
@@ -98,6 +98,10 @@ is_cancel_of nth _ = false
 abbrev pub is_cancellation : ℕ → ℕ → Line → Bool
 is_cancellation caller nth x = is_by caller x && (is_cancel_of nth x.entry.act && is_cancelled x.entry.reply)
 
+-- the caller gave up its nth booking
+abbrev pub has_given_up : History → ℕ → ℕ → Bool
+has_given_up H caller nth = list_any (is_cancellation caller nth) H
+
 -- the nth Book of a caller, counted from 1, whatever its reply
 abbrev pub nth_book : History → ℕ → ℕ → Option Line
 nth_book H caller nth = slice_get (filter (is_book_by caller) H) (nth - 1)
@@ -129,6 +133,10 @@ last_prices H = last_value prices_of [] H
 -- a vector as it stands on the board
 abbrev pub posted : Line → Option Posted
 posted x = option_map (λ (c : Claim). record { position = unwrap_or (published_position x.entry.act) 0; certificate = c }) x.certificate
+
+-- the certificate of the line at a place
+abbrev pub certificate_at : History → ℕ → Option Claim
+certificate_at H place = option_and_then (λ (x : Line). x.certificate) (slice_get H place)
 
 -- the vectors of a history, in order
 abbrev pub boards : History → List Posted

@@ -1,5 +1,5 @@
 -- Entries and boards as the lines of a history, with what each line changes.
-use Rattle.std.specs.Prelude.{◌≡◌, ℕ, ◌+◌, ◌-◌, Bool, if◌then◌else◌, List, [], ◌∷◌, length, map, take, drop, count_by, slice_get, slice_index_or, Some, None, is_some}
+use Rattle.std.specs.Prelude.{◌≡◌, ℕ, ◌+◌, ◌-◌, Bool, if◌then◌else◌, List, [], ◌∷◌, length, map, take, drop, count_by, slice_get, slice_index_or, Option, Some, None, is_some}
 use Rattle.std.specs.List.{range_with_len, flat_map}
 use Rattle.std.specs.Option.{option_map}
 use Rattle.bp_types.specs.declared.change.Change.{Change}
@@ -7,6 +7,7 @@ use Rattle.bp_board.specs.Posted.{Posted}
 use Rattle.bp_core.specs.declared.line.Entry.{Entry}
 use Rattle.bp_core.specs.declared.line.Line.{Line}
 use Rattle.bp_core.specs.declared.line.Act.TheVariants.{Publish}
+use Rattle.bp_core.specs.declared.line.Reply.{Reply}
 use Rattle.bp_core.specs.declared.line.Reply.TheVariants.{Vector}
 use Rattle.bp_core.specs.Lines.{History, published_position, boards, commands, vectors}
 use Rattle.bp_core.specs.Changes.{is_change}
@@ -14,6 +15,15 @@ use Rattle.bp_core.specs.Changes.{is_change}
 -- an entry that publishes
 abbrev pub publishes : Entry → Bool
 publishes e = is_some (published_position e.act)
+
+-- the number of the vector that a reply gives
+abbrev pub vector_number : Reply → Option ℕ
+vector_number (Vector number) = Some number
+vector_number _ = None
+
+-- the number of the vector that an entry publishes
+abbrev pub published_number : Entry → Option ℕ
+published_number e = if publishes e then vector_number e.reply else None
 
 -- the entry with the certificate of the first of the boards, if it publishes
 abbrev pub line_with : Entry → List Posted → Line

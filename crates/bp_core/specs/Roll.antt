@@ -1,8 +1,10 @@
 -- What is kept of each caller: its standing, and its bookings in order.
-use Rattle.std.specs.Prelude.{ℕ, Bool, true, false, List, [], slice_set, slice_index_or}
+use Rattle.std.specs.Prelude.{ℕ, Bool, true, false, List, [], slice_set, slice_index_or, Option, Some, None}
 use Rattle.bp_core.specs.declared.roll.Standing.{Standing}
 use Rattle.bp_core.specs.declared.roll.Standing.TheVariants.{New, Present, Gone}
 use Rattle.bp_core.specs.declared.roll.Booking.{Booking}
+use Rattle.bp_core.specs.declared.roll.Fate.{Fate}
+use Rattle.bp_core.specs.declared.roll.Fate.TheVariants.{GivenUp}
 
 -- the callers by number, and for how many bookings of each there is room
 pub record Kept : Type 0 where
@@ -47,3 +49,13 @@ abbrev pub is_gone : Standing → Bool
 is_gone New = false
 is_gone Present = false
 is_gone Gone = true
+
+-- a booking that is given up
+abbrev pub is_over : Fate → Bool
+is_over GivenUp = true
+is_over _ = false
+
+-- the booking, if there is one, is given up
+abbrev pub was_given_up : Option Booking → Bool
+was_given_up None = false
+was_given_up (Some b) = is_over b.fate

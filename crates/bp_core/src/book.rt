@@ -1,16 +1,20 @@
-ghost use Rattle.std.specs.Prelude.{◌≡◌, ◌+◌, ◌<◌, ◌≤◌, ◌^◌, ◌++◌, ◌∷◌, [], Some, None, length, map, slice_get, vec_capacity, IfOk, IsTrue, MatchOption};
+ghost use Rattle.std.specs.Prelude.{◌≡◌, ◌+◌, ◌<◌, ◌≤◌, ◌^◌, ◌++◌, ◌∷◌, [], Some, None, length, map, slice_get, vec_capacity, option_and_then, IfOk, IsTrue, MatchOption};
 ghost use Rattle.std.specs.Option.{option_map};
 ghost use Rattle.std.specs.Arc.{arc_value};
 ghost use Rattle.bp_types.specs.declared.stay.Stay.{Stay};
-ghost use Rattle.bp_types.specs.House.{opening};
+ghost use Rattle.bp_types.specs.House.{opening, IsHouse};
 ghost use Rattle.bp_core.specs.declared.line.Line.{Line};
-ghost use Rattle.bp_core.specs.Lines.{published_position, is_accepted, commands, vectors, boards, last_position, last_prices};
-ghost use Rattle.bp_core.specs.Callers.{greatest_caller, may_act, may_enrol, left_of};
+ghost use Rattle.bp_board.specs.Posted.{Posted};
+ghost use Rattle.bp_core.specs.Lines.{published_position, is_accepted, has_given_up, commands, vectors, certificate_at, boards, last_number, last_position, last_prices};
+ghost use Rattle.bp_core.specs.Callers.{greatest_caller, may_act, may_enrol, may_log, left_of};
 ghost use Rattle.bp_core.specs.Instance.{rooms_at, sold_at, first_without, forecast_of, rate_of, instance_at};
 ghost use Rattle.bp_core.specs.Changes.{changes_between, changes_after, deltas_between, resize_delta};
 ghost use Rattle.bp_core.specs.Answer.{book_reply};
 ghost use Rattle.bp_core.specs.Legal.{IsLegal, IsCertificateOf};
 ghost use Rattle.bp_core.specs.Deltas.{delta_list};
+ghost use Rattle.bp_core.specs.Laws.{KeepsLimits};
+ghost use Rattle.bp_core.specs.Log.{published_number};
+ghost use Rattle.bp_core.specs.Roll.{was_given_up};
 ghost use Rattle.bp_core.specs.Leading.{Leads};
 ghost use Rattle.bp_core.specs.Held.{IsHeld};
 ghost use Rattle.bp_core.specs.Acting.{Diary, MayCall, MayDo, IsQuoteFor, IsQuoteRight, IsAnswered, IsDone, opening_line, plain_line};
@@ -21,7 +25,7 @@ use crate::roll::{Booking, Fate, Roll, Standing};
 use crate::{Act, Answer, Call, Entry, Reply};
 use bp_board::Board;
 use bp_ledger::Ledger;
-use bp_types::{Change, Command, House, Memory, Quoted, Span};
+use bp_types::{Certificate, Change, Command, House, Memory, Quoted, Span};
 use std::alloc::Global;
 use std::marker::Model;
 use std::sync::Arc;
@@ -402,8 +406,26 @@ impl Book {
         logged(&mut self.log, caller, Act::Leave, Reply::Done, Deltas::None)
     }
 
+    /// The house, as it was opened.
+    pub fn house(&self) -> &House
+        ensures { result.now ≡ self.now.house }
+    {
+        &self.house
+    }
+
+    /// What holds of each book, for who has nothing else: the laws over histories apply to it. It does nothing.
+    pub fn facts(&self)
+        ensures house { IsHouse self.now.house }
+        ensures legal { IsLegal self.now.house self.now.history }
+        ensures limits { KeepsLimits self.now.house self.now.history }
+    {
+        let _ = &self.log;
+    }
+
     /// The board of the last vector.
-    fn last_board(&self) -> &Board
+    pub fn last_board(&self) -> &Board
+        ensures last { slice_get (boards self.now.history) (last_number self.now.history) ≡ Some result.now }
+        ensures within { result.now.position ≤ length self.now.history }
         ensures position { result.now.position ≡ last_position self.now.history }
         ensures prices { result.now.certificate.prices ≡ last_prices self.now.history }
         ensures nights { length result.now.certificate.prices ≡ length self.now.house.rooms }
@@ -412,7 +434,7 @@ impl Book {
     }
 
     /// The changes at the places from one position up to another, and none where that is the earlier one.
-    fn changes_up_to(&self, from: u64, until: u64) -> u64
+    pub fn changes_up_to(&self, from: u64, until: u64) -> u64
         requires { until ≤ length self.now.history }
         ensures { result ≡ changes_between self.now.history from until }
     {
@@ -445,12 +467,11 @@ impl Book {
         self.log.vectors()
     }
 
-    /// How many changes stand at the places from a position on.
+    /// How many changes stand at the places from a position on; there is none past the last entry.
     pub fn changes_after(&self, position: u64) -> u64
-        requires { position ≤ length self.now.history }
         ensures { result ≡ changes_after self.now.history position }
     {
-        self.log.changes_between(position, self.log.len())
+        self.changes_up_to(position, self.log.len())
     }
 
     /// How many of the callers from 1 to a number have left.
@@ -495,11 +516,47 @@ impl Book {
         roll.is_new(caller)
     }
 
+    /// Whether an act may be a caller's next entry: an Enrol, a Leave, or what is done between the two.
+    pub fn may_log(&self, caller: u32, act: Act) -> bool
+        ensures { result ≡ may_log self.now.history caller act }
+    {
+        match act {
+            Act::Enrol => self.may_enrol(caller),
+            Act::Leave => caller != 0 && self.may_act(caller),
+            Act::Do(_) | Act::Publish { .. } => self.may_act(caller),
+        }
+    }
+
+    /// Whether a caller has given up its nth booking, counted from 1 and with those that were refused.
+    pub fn is_cancelled(&self, caller: u32, nth: u64) -> bool
+        ensures { result ≡ has_given_up self.now.history caller nth }
+    {
+        let roll = &self.roll;
+        if caller > MOST_CALLERS {
+            return false;
+        }
+        if nth == 0 {
+            return false;
+        }
+        was_given_up(roll.booking(caller, nth))
+    }
+
     /// The entry at a place; there is none past the last one.
     pub fn entry(&self, place: u64) -> Option<Entry>
         ensures { result ≡ option_map (λ (x : Line). x.entry) (slice_get self.now.history place) }
     {
         self.log.entry(place)
+    }
+
+    /// The certificate of the entry at a place; only a Publish has one.
+    pub fn certificate(&self, place: u64) -> Option<&Certificate>
+        ensures { option_map (λ c. c.now) result ≡ certificate_at self.now.history place }
+    {
+        let entry = self.log.entry(place);
+        match published_number(entry) {
+            Some(number) => certificate_of(self.log.board(number)),
+            None => None,
+        }
     }
 
     /// The board of a vector by its number; there is none past the last one.
@@ -579,6 +636,40 @@ fn is_accepted(reply: &Reply) -> bool
     ensures { result ≡ is_accepted reply.now }
 {
     matches!(reply, Reply::Accepted { .. })
+}
+
+fn was_given_up(booking: Option<Booking>) -> bool
+    ensures { result ≡ was_given_up booking }
+{
+    match booking {
+        Some(booking) => matches!(booking.fate, Fate::GivenUp),
+        None => false,
+    }
+}
+
+/// The number of the vector that an entry publishes.
+fn published_number(entry: Option<Entry>) -> Option<u64>
+    ensures { result ≡ option_and_then published_number entry }
+{
+    match entry {
+        Some(
+            Entry {
+                act: Act::Publish { .. },
+                reply: Reply::Vector { number },
+                ..
+            },
+        ) => Some(number),
+        _ => None,
+    }
+}
+
+fn certificate_of(board: Option<&Arc<Board>>) -> Option<&Certificate>
+    ensures { option_map (λ c. c.now) result ≡ option_map (λ (b : Posted). b.certificate) (option_map (λ b. arc_value b.now) board.entry) }
+{
+    match board {
+        Some(board) => Some(board.certificate()),
+        None => None,
+    }
 }
 
 /// Logs an entry that is no Publish.

@@ -11,6 +11,7 @@ mod deltas;
 pub mod law;
 mod line;
 mod log;
+mod range;
 mod roll;
 mod threads;
 
@@ -18,4 +19,5 @@ pub use book::Book;
 pub use call::{Answer, Call};
 pub use calls::{Made, make_all};
 pub use line::{Act, Entry, Line, Reply};
+pub use range::is_in_range;
 pub use threads::book_crosses_threads;

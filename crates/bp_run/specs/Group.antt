@@ -1,8 +1,10 @@
 -- `group`: what a group of rooms on a span displaces.
-use Rattle.std.specs.Prelude.{◌≡◌, ℕ, List, [], ◌∷◌, ◌++◌, codes, Some}
+use Rattle.std.specs.Prelude.{◌≡◌, ℕ, List, [], ◌∷◌, ◌++◌, length, codes, Some}
 use Rattle.bp_types.specs.Program.{Program}
 use Rattle.bp_types.specs.declared.stay.Span.{Span}
-use Rattle.bp_types.specs.Changes.{IsSpanOf, HasUnits}
+use Rattle.bp_types.specs.Claim.{IsLeastCertificate}
+use Rattle.bp_types.specs.Spans.{IsSpanWithin}
+use Rattle.bp_types.specs.Changes.{HasUnits}
 use Rattle.bp_types.specs.Displacement.{IsDisplacement, without}
 use Rattle.bp_cert.specs.Texts.{certificate_text}
 use Rattle.bp_group.specs.Quotes.{first_short}
@@ -10,7 +12,6 @@ use Rattle.bp_run.specs.Words.{Word}
 use Rattle.bp_run.specs.Stages.{one}
 use Rattle.bp_run.specs.TextFiles.{problem_file}
 use Rattle.bp_run.specs.Command.{Command}
-use Rattle.bp_run.specs.Solve.{IsLeastCertificate}
 use Rattle.bp_run.specs.Texts.{line}
 use Rattle.bp_run.specs.declared.status.Status.{Status}
 use Rattle.bp_run.specs.declared.status.Status.TheVariants.{Done, Refused}
@@ -25,8 +26,8 @@ span_of from to = record { from = from; to = to }
 -- what is answered to a group of so many rooms: that its span is none of the problem's, the first night that lacks
 -- the rooms, or its displacement with certificates of both optima
 abbrev pub IsGroupAnswer : Program → Span → ℕ → GroupAnswer → Type 0
-IsGroupAnswer p span rooms BadSpan = IsSpanOf p span → ⊥
-IsGroupAnswer p span rooms (NoRoom night) = IsSpanOf p span × (first_short p span rooms ≡ Some night)
+IsGroupAnswer p span rooms BadSpan = IsSpanWithin (length p.rooms) span → ⊥
+IsGroupAnswer p span rooms (NoRoom night) = IsSpanWithin (length p.rooms) span × (first_short p span rooms ≡ Some night)
 IsGroupAnswer p span rooms (Quoted displacement before after) =
     IsDisplacement p span rooms displacement × IsLeastCertificate p before × IsLeastCertificate (without p span rooms) after
 
@@ -37,7 +38,7 @@ group_command problem span rooms = record {
   plan = one (problem_file problem);
   Own = GroupAnswer;
   IsRight = λ p. IsGroupAnswer p span rooms;
-  IsServed = λ p. IsSpanOf p span × HasUnits p span rooms;
+  IsServed = λ p. IsSpanWithin (length p.rooms) span × HasUnits p span rooms;
   among = Grouped;
 }
 

@@ -1,8 +1,8 @@
 -- What each end of a call says: its status and its text.
 use Rattle.std.specs.Prelude.{ℕ, List, [], ◌∷◌, ◌++◌, codes}
 use Rattle.std.specs.Fmt.{decimal}
-use Rattle.bp_cert.specs.declared.text_error.TextError.{TextError}
-use Rattle.bp_cert.specs.declared.text_error.TextError.TheVariants.{BadLine, Limit, TooShort, Trailing, Memory}
+use Rattle.bp_text.specs.declared.text_error.TextError.{TextError}
+use Rattle.bp_text.specs.declared.text_error.TextError.TheVariants.{BadLine, Limit, TooShort, Trailing, Memory}
 use Rattle.bp_run.specs.Texts.{line}
 use Rattle.bp_run.specs.Commands.{answer_said, answer_status}
 use Rattle.bp_run.specs.declared.status.Status.{Status}

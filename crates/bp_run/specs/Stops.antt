@@ -1,8 +1,8 @@
 -- Why the files of a task give no value, and what a call says that reads them.
 use Rattle.std.specs.Prelude.{◌≡◌, ℕ, Bool, true, false, if◌then◌else◌, Result, Ok, Err}
 use Rattle.std.specs.Option.{ForSome}
-use Rattle.bp_cert.specs.declared.text_error.TextError.{TextError}
-use Rattle.bp_cert.specs.declared.text_error.TextError.TheVariants.{Memory as NoTextMemory}
+use Rattle.bp_text.specs.declared.text_error.TextError.{TextError}
+use Rattle.bp_text.specs.declared.text_error.TextError.TheVariants.{Memory as NoTextMemory}
 use Rattle.bp_run.specs.Words.{Word}
 use Rattle.bp_run.specs.Stages.{Plan, Gives, ComesAt, HoldsFiles}
 use Rattle.bp_run.specs.Fetches.{Fetches, Leaves, Fails, IsTooLong, IsRefusedFor}

@@ -1,13 +1,13 @@
 -- The files of lines: a problem, a certificate.
-use Rattle.std.specs.Prelude.{◌≢◌, ℕ, ◌^◌, List, Ok, Err}
+use Rattle.std.specs.Prelude.{◌≢◌, ℕ, List, Ok, Err}
 use Rattle.bp_types.specs.Program.{Program}
 use Rattle.bp_types.specs.Claim.{Claim}
-use Rattle.bp_cert.specs.declared.text_error.TextError.TheVariants.{Memory}
-use Rattle.bp_cert.specs.Lines.{Line}
-use Rattle.bp_cert.specs.Reading.{IsText}
+use Rattle.bp_text.specs.declared.text_error.TextError.TheVariants.{Memory}
+use Rattle.bp_text.specs.Lines.{Line}
+use Rattle.bp_text.specs.Reading.{IsText}
 use Rattle.bp_cert.specs.Texts.{problem_lines, all_certificate_lines, IsProblem, IsSpeakable}
 use Rattle.bp_run.specs.Words.{Word}
-use Rattle.bp_run.specs.Stages.{Stage}
+use Rattle.bp_run.specs.Stages.{Stage, most_bytes}
 use Rattle.bp_run.specs.declared.end.FileError.{FileError}
 use Rattle.bp_run.specs.declared.end.FileError.TheVariants.{Text}
 
@@ -19,7 +19,7 @@ IsNoText lines Within bytes (Text e) = (e ≢ Memory) × IsText lines Within byt
 abbrev pub problem_file : Word → Stage
 problem_file name = record {
   name = name;
-  most = 2 ^ 24;
+  most = most_bytes;
   Value = Program;
   Accepts = λ bytes p. IsText problem_lines IsProblem bytes (Ok p);
   Refuses = IsNoText problem_lines IsProblem;
@@ -29,7 +29,7 @@ problem_file name = record {
 abbrev pub certificate_file : Word → Stage
 certificate_file name = record {
   name = name;
-  most = 2 ^ 24;
+  most = most_bytes;
   Value = Claim;
   Accepts = λ bytes c. IsText all_certificate_lines IsSpeakable bytes (Ok c);
   Refuses = IsNoText all_certificate_lines IsSpeakable;

@@ -3,7 +3,8 @@ ghost use Rattle.std.specs.Prelude.{◌≡◌};
 ghost use Rattle.bp_run.specs.declared.end.FileError.TheVariants.{Text};
 
 use crate::GroupAnswer;
-use bp_cert::{TextError, Verdict};
+use bp_cert::Verdict;
+use bp_text::TextError;
 use bp_types::Certificate;
 
 /// Why a reader refuses a file, in the reader's own words.

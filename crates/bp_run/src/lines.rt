@@ -3,7 +3,7 @@ ghost use Rattle.std.specs.Prelude.{◌≡◌, IfOk, string_bytes};
 ghost use Rattle.bp_run.specs.Lines.{said, end_status, refusal_line, text_refusal, usage};
 
 use crate::{Cause, End, FileError, Status, commands};
-use bp_cert::TextError;
+use bp_text::TextError;
 use std::alloc::{AllocError, Global};
 
 const USAGE: &str = "usage:

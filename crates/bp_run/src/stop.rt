@@ -4,7 +4,7 @@ ghost use Rattle.bp_run.specs.Stops.{is_memory, refused_by_reader};
 ghost use Rattle.bp_run.specs.declared.stop.Stop.TheVariants.{Memory as NoMemory};
 
 use crate::{Cause, FileError};
-use bp_cert::TextError;
+use bp_text::TextError;
 use bp_types::Memory;
 
 /// Why the files of a task give no value. Files count from 1, in the order of the words.

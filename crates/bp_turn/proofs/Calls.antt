@@ -9,7 +9,7 @@ use lib.Seq.{set-get_or}
 use Rattle.std.proofs.lemmas.List.Elements.{All-weaker, All-push}
 use Rattle.atomic_table.specs.Table.{State, keeps, takes, step, stepped, Allows}
 use Rattle.atomic_table.proofs.Lists.{one_turn}
-use Rattle.bp_turn.specs.declared.board.View.{View}
+use Rattle.bp_turn.specs.declared.table.View.{View}
 use Rattle.bp_turn.specs.Callers.{entries_by}
 use Rattle.bp_turn.specs.Plays.{Sat, Took, Called}
 use Rattle.bp_turn.specs.Prefix.{IsPrefix}

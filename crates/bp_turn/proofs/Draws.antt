@@ -7,7 +7,7 @@ use lib.ListN.{get_elem?}
 use Rattle.std.specs.List.{All}
 use Rattle.std.proofs.lemmas.List.Elements.{All-weaker}
 use Rattle.atomic_table.specs.Table.{State, keeps, step, stepped, Allows}
-use Rattle.bp_turn.specs.declared.board.View.{View}
+use Rattle.bp_turn.specs.declared.table.View.{View}
 use Rattle.bp_turn.specs.Rule.{hands_out, Past, Fits, IsFree, FollowsRule, IsOutOrHome, HasPart, There}
 use Rattle.bp_turn.specs.Plays.{Sat, Drew}
 use Rattle.bp_turn.specs.Views.{view_with_ticket}

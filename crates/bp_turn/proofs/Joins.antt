@@ -8,8 +8,8 @@ use Rattle.std.specs.List.{All}
 use Rattle.std.proofs.lemmas.List.Elements.{All-nil, All-weaker, All-append, All-cons, Contains-append_left, Contains-append_right}
 use Rattle.atomic_table.specs.Table.{State, keeps, step, Allows, Joins}
 use Rattle.atomic_table.proofs.Lists.{set_else}
-use Rattle.bp_turn.specs.declared.board.View.{View}
-use Rattle.bp_turn.specs.Plays.{Sat, Settled, IsNote}
+use Rattle.bp_turn.specs.declared.table.View.{View}
+use Rattle.bp_turn.specs.Plays.{Sat, Learnt, IsNote}
 use Rattle.bp_turn.specs.Prefix.{longer}
 use Rattle.bp_turn.specs.Rule.{Part, logs, hands_out, keeps_ended, Past, Fits, IsFree, IsEnded, FollowsRule, IsOutOrHome, HasPart, There}
 use Rattle.bp_turn.specs.Seat.{IsSoundView}
@@ -218,8 +218,8 @@ module _ {B F E : Type 0} (fix : B → F) (story : B → List E) (caller : E →
   pub absorbs : (id : ℕ) (v : View F E) (k : ℕ) (w : View F E) → v.has_turn ≡ false → w.has_turn ≡ false → w.has_ticket ≡ false → w.number < 64 → Joins (FollowsRule fix story caller fixed) id v k w (view_joined v w) spent_view
   absorbs id v k w idle off unserved small s r at ne there = join_keeps s r id k v w at ne (sym (set_else s.views id k (view_joined v w) ne) ∙ there) idle off unserved small
 
-  pub settles : (slots id : ℕ) (m : Sat B F E) → Allows (FollowsRule fix story caller fixed) slots id m 0 (λ n. n) (Settled fix story caller (step slots 0 0 0 none) m)
-  settles slots id m s r _ at _ = let f = r.each id m.0 at in (
+  pub learns : (slots id : ℕ) (m : Sat B F E) → Allows (FollowsRule fix story caller fixed) slots id m 0 (λ n. n) (Learnt fix story caller (step slots 0 0 0 none) m)
+  learns slots id m s r _ at _ = let f = r.each id m.0 at in (
     m.0,
     keeps,
     tt,
@@ -228,11 +228,11 @@ module _ {B F E : Type 0} (fix : B → F) (story : B → List E) (caller : E →
   )
 
 module _ {F E : Type 0} (caller : E → ℕ) where
-  settled_turns : (v : View F E) (ys : List E) → IsSoundView caller v → All (λ t. t ≤ length (longer v.seen ys)) v.turns
-  settled_turns v ys z = let m = longer_ge v.seen ys in All-weaker (λ t. t ≤ length v.seen) (λ t. t ≤ length (longer v.seen ys)) (λ t l. omega arith) v.turns z.turn_lengths
+  turns_within : (v : View F E) (ys : List E) → IsSoundView caller v → All (λ t. t ≤ length (longer v.seen ys)) v.turns
+  turns_within v ys z = let m = longer_ge v.seen ys in All-weaker (λ t. t ≤ length v.seen) (λ t. t ≤ length (longer v.seen ys)) (λ t l. omega arith) v.turns z.turn_lengths
 
   pub told_sound : (v w : View F E) → (v.number < 64 → (f : F) × (v.fixed ≡ Some f) → All (λ t. t ≤ length (longer v.seen w.seen)) v.turns → IsSoundView caller (view_told v w)) → IsSoundView caller v → IsSoundView caller (view_told v w)
-  told_sound v w h z = h z.below_64 z.fixed_part (settled_turns v w.seen z)
+  told_sound v w h z = h z.below_64 z.fixed_part (turns_within v w.seen z)
 
   pub joined_sound : (v w : View F E) → (v.number < 64 → (f : F) × (v.fixed ≡ Some f) → All (λ t. t ≤ length (longer v.seen w.seen)) v.turns → IsSoundView caller (view_joined v w)) → IsSoundView caller v → IsSoundView caller (view_joined v w)
-  joined_sound v w h z = h z.below_64 z.fixed_part (settled_turns v w.seen z)
+  joined_sound v w h z = h z.below_64 z.fixed_part (turns_within v w.seen z)

@@ -6,7 +6,7 @@ use lib.ListN.{get_elem?}
 use Rattle.std.specs.List.{All}
 use Rattle.std.proofs.lemmas.List.Elements.{All-weaker}
 use Rattle.atomic_table.specs.Table.{State, gives, step, stepped, Allows}
-use Rattle.bp_turn.specs.declared.board.View.{View}
+use Rattle.bp_turn.specs.declared.table.View.{View}
 use Rattle.bp_turn.specs.Plays.{Sat, Gave}
 use Rattle.bp_turn.specs.Rule.{hands_out, Past, Fits, IsFree, FollowsRule, HasPart}
 use Rattle.bp_turn.specs.Views.{view_after_turn}

@@ -5,7 +5,7 @@ use lib.ListN.{get_elem?}
 use Rattle.std.specs.List.{All}
 use Rattle.std.proofs.lemmas.List.Elements.{All-weaker}
 use Rattle.atomic_table.specs.Table.{State, keeps, step, stepped, Allows}
-use Rattle.bp_turn.specs.declared.board.View.{View}
+use Rattle.bp_turn.specs.declared.table.View.{View}
 use Rattle.bp_turn.specs.Callers.{entries_by}
 use Rattle.bp_turn.specs.Plays.{Sat, Logged}
 use Rattle.bp_turn.specs.Prefix.{IsPrefix}

@@ -6,7 +6,7 @@ use lib.ListN.{get_elem?}
 use lib.Seq.{set-get_or}
 use Rattle.atomic_table.specs.Table.{State, keeps, step, stepped, Allows}
 use Rattle.atomic_table.proofs.Lists.{exchanged}
-use Rattle.bp_turn.specs.declared.board.View.{View}
+use Rattle.bp_turn.specs.declared.table.View.{View}
 use Rattle.bp_turn.specs.Plays.{Sat, Looked, Chose}
 use Rattle.bp_turn.specs.Rule.{Fits, FollowsRule, HasPart}
 use Rattle.bp_turn.specs.Views.{view_with_look, view_with_choice}

@@ -7,7 +7,7 @@ use lib.ListN.{get_elem?}
 use Rattle.std.specs.List.{All}
 use Rattle.std.proofs.lemmas.List.Elements.{All-nil, All-weaker}
 use Rattle.atomic_table.specs.Table.{opening}
-use Rattle.bp_turn.specs.declared.board.View.{View}
+use Rattle.bp_turn.specs.declared.table.View.{View}
 use Rattle.bp_turn.specs.Callers.{numbers_from}
 use Rattle.bp_turn.specs.Rule.{Part, logs, hands_out, Past, Fits, FollowsRule, IsFree, IsEnded, HasPart, There}
 use Rattle.bp_turn.specs.Seat.{IsAtRest}

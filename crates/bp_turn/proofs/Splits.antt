@@ -8,7 +8,7 @@ use Rattle.std.specs.List.{All, Contains}
 use Rattle.std.proofs.lemmas.List.Elements.{All-nil, All-weaker, All-contains}
 use Rattle.atomic_table.specs.Table.{State, Splits}
 use Rattle.atomic_table.proofs.Lists.{at_last, set_again}
-use Rattle.bp_turn.specs.declared.board.View.{View}
+use Rattle.bp_turn.specs.declared.table.View.{View}
 use Rattle.bp_turn.specs.Callers.{entries_by, without}
 use Rattle.bp_turn.specs.Plays.{Sat}
 use Rattle.bp_turn.specs.Rule.{Part, logs, hands_out, keeps_ended, Past, Fits, IsFree, IsEnded, FollowsRule, HasPart, There}

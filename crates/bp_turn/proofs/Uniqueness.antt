@@ -8,7 +8,7 @@ use Rattle.std.specs.List.{All}
 use Rattle.std.proofs.lemmas.List.Elements.{All-weaker}
 use Rattle.atomic_table.specs.Table.{State, keeps, stepped}
 use Rattle.atomic_table.proofs.Lists.{set_again}
-use Rattle.bp_turn.specs.declared.board.View.{View}
+use Rattle.bp_turn.specs.declared.table.View.{View}
 use Rattle.bp_turn.specs.Callers.{entries_by}
 use Rattle.bp_turn.specs.Rule.{Part, logs, Past, Fits, IsFree, IsEnded, FollowsRule}
 use Rattle.bp_turn.specs.Seat.{IsSoundView}

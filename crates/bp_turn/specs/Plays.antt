@@ -1,7 +1,7 @@
 -- What each step on the table tells the seat that makes it.
 use Rattle.std.specs.Prelude.{◌≡◌, ◌≢◌, ℕ, ◌%◌, ◌^◌, ◌≤◌, ◌<◌, false, List, [], ◌∷◌, ◌++◌, length, Option, Some, All}
 use Rattle.atomic_table.specs.Table.{Me, Step}
-use Rattle.bp_turn.specs.declared.board.View.{View}
+use Rattle.bp_turn.specs.declared.table.View.{View}
 use Rattle.bp_turn.specs.Prefix.{IsPrefix}
 use Rattle.bp_turn.specs.Seat.{IsSoundView}
 use Rattle.bp_turn.specs.Views.{view_with_ticket, view_at_turn, view_with_entry, view_after_turn, view_with_look, view_with_choice}
@@ -45,8 +45,8 @@ module _ {B F E : Type 0} (fix : B → F) (story : B → List E) (caller : E →
   Logged st m r m' = (b : B) (e : E) → m.1 ≡ (0, Some b) ∷ [] → story b ≡ m.0.seen ++ e ∷ [] → (m' ≡ (view_with_entry m.0 e, m.1)) × (IsSoundView caller m.0 → IsSoundView caller (view_with_entry m.0 e))
 
   -- after a seat was joined in: the shorter list is a prefix of the longer, both had the same fixed part, and what is kept agrees with what was seen
-  abbrev pub Settled : Step (Option B) → Sat B F E → ℕ → Sat B F E → Type 0
-  Settled st m r m' =
+  abbrev pub Learnt : Step (Option B) → Sat B F E → ℕ → Sat B F E → Type 0
+  Learnt st m r m' =
       (m' ≡ m) × (length m.0.told ≤ length m.0.seen → IsPrefix m.0.told m.0.seen)
       × ((f g : F) → m.0.fixed ≡ Some f → m.0.told_fixed ≡ Some g → m.0.told_fixed ≡ m.0.fixed)
       × (m.0.number < 64 → (f : F) × (m.0.fixed ≡ Some f) → All (λ t. t ≤ length m.0.seen) m.0.turns → IsSoundView caller m.0)

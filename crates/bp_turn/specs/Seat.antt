@@ -2,7 +2,7 @@
 use Rattle.std.specs.Prelude.{◌≡◌, ℕ, Bool, false, List, [], ◌∷◌, length, Option, Some, None, if◌then◌else◌, ◌<◌, ◌≤◌, All}
 use Rattle.atomic_table.specs.Table.{Me}
 use Rattle.atomic_table.specs.Seated.{TableId}
-use Rattle.bp_turn.specs.declared.board.View.{View}
+use Rattle.bp_turn.specs.declared.table.View.{View}
 use Rattle.bp_turn.specs.Callers.{entries_by, numbers_from}
 
 -- What a seat is, has seen and has done.

@@ -1,6 +1,6 @@
 -- The view of a seat, and how each step changes it.
 use Rattle.std.specs.Prelude.{ℕ, true, false, List, [], ◌∷◌, ◌++◌, length, Some, None}
-use Rattle.bp_turn.specs.declared.board.View.{View}
+use Rattle.bp_turn.specs.declared.table.View.{View}
 use Rattle.bp_turn.specs.Callers.{numbers_from, without}
 use Rattle.bp_turn.specs.Prefix.{longer, shorter}
 

@@ -2,11 +2,11 @@
 #![tactic(auto)]
 
 mod bell;
-mod board;
 mod plays;
 mod seat;
 mod seats;
 mod story;
+mod table;
 mod turn;
 
 pub use seat::TurnSeat;

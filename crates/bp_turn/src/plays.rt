@@ -1,9 +1,9 @@
 // What each step on the table tells the seat that makes it. These types are for proofs alone: no value of them is made.
-ghost use Rattle.bp_turn.specs.Plays.{Drew, Called, Gave, Logged, Looked, Chose, Settled};
+ghost use Rattle.bp_turn.specs.Plays.{Drew, Called, Gave, Logged, Looked, Chose, Learnt};
 ghost use Rattle.bp_turn.specs.Views.{view_less_choice, newcomer, note, spent_view, view_told, view_joined};
 
-use crate::board::View;
 use crate::story::Story;
+use crate::table::View;
 use atomic_table::{Join, Play, Split};
 
 /// It draws a ticket.
@@ -49,10 +49,10 @@ impl<B: Story> Play<Option<B>, View<B::Fixed, B::Entry>> for Choose {
 }
 
 /// After a seat was joined into it, it learns that both had seen prefixes of one history.
-pub struct Settle;
+pub struct Learn;
 
-impl<B: Story> Play<Option<B>, View<B::Fixed, B::Entry>> for Settle {
-    ghost then = { Settled B.fixed B.story B.caller };
+impl<B: Story> Play<Option<B>, View<B::Fixed, B::Entry>> for Learn {
+    ghost then = { Learnt B.fixed B.story B.caller };
 }
 
 /// A new seat gets the number that was chosen.

@@ -1,8 +1,8 @@
 // A seat at the lock.
 ghost use Rattle.bp_turn.specs.Seat.{IsSound};
 
-use crate::board::Place;
 use crate::story::Story;
+use crate::table::Place;
 use std::marker::Model;
 
 /// The right to take turns at one lock, under one number. It has no bytes and no lifetime, and may move to another thread. Contracts see which lock it is of, and what it has seen and done there.

@@ -6,10 +6,10 @@ ghost use Rattle.bp_turn.specs.Prefix.{IsPrefix, longer};
 ghost use Rattle.bp_turn.specs.Seat.{new_seat, IsSoundView};
 ghost use Rattle.bp_turn.specs.Views.{view_told, view_joined};
 
-use crate::board::{LENGTH, Place};
-use crate::plays::{Absorb, Choose, Newcomer, Note, Settle};
+use crate::plays::{Absorb, Choose, Learn, Newcomer, Note};
 use crate::seat::TurnSeat;
 use crate::story::Story;
+use crate::table::{LENGTH, Place};
 use crate::turn::{Memory, Turn};
 use std::alloc::Global;
 
@@ -27,10 +27,10 @@ impl<B: Story> Turn<B> {
         ensures new { IsOkAnd result (λ r. r ≡ new_seat seat.old number) }
     {
         let number = u64::from(number);
-        self.board
+        self.table
             .shared
             .compare_exchange::<Choose>(&mut seat.place, LENGTH, number, number);
-        let place = self.board.shared.split_seat::<Newcomer>(&mut seat.place);
+        let place = self.table.shared.split_seat::<Newcomer>(&mut seat.place);
         Ok(TurnSeat { place })
     }
 
@@ -65,8 +65,8 @@ impl<B: Story> Turn<B> {
         ensures begins { IsPrefix seat.old.seen seat.new.seen × IsPrefix other.old.seen seat.new.seen }
         ensures fixed { other.old.fixed ≡ seat.old.fixed }
     {
-        let of_seat = self.board.shared.split_seat::<Note>(&mut seat.place);
-        let of_other = self.board.shared.split_seat::<Note>(&mut other.place);
+        let of_seat = self.table.shared.split_seat::<Note>(&mut seat.place);
+        let of_other = self.table.shared.split_seat::<Note>(&mut other.place);
         self.hear(&mut seat.place, of_other);
         self.hear(&mut other.place, of_seat);
         Ok(())
@@ -86,8 +86,8 @@ impl<B: Story> Turn<B> {
         ensures sound { IsSoundView B.caller place.old.me.0
             → IsSoundView B.caller (view_told place.old.me.0 told.me.0) }
     {
-        self.board.shared.join_seat::<Note>(place, told);
-        self.board.shared.load::<Settle>(place, LENGTH);
+        self.table.shared.join_seat::<Note>(place, told);
+        self.table.shared.load::<Learn>(place, LENGTH);
     }
 
     // Ends the other seat in this one.
@@ -105,7 +105,7 @@ impl<B: Story> Turn<B> {
         ensures sound { IsSoundView B.caller place.old.me.0
             → IsSoundView B.caller (view_joined place.old.me.0 other.me.0) }
     {
-        self.board.shared.join_seat::<Absorb>(place, other);
-        self.board.shared.load::<Settle>(place, LENGTH);
+        self.table.shared.join_seat::<Absorb>(place, other);
+        self.table.shared.load::<Learn>(place, LENGTH);
     }
 }

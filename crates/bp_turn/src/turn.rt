@@ -6,10 +6,10 @@ ghost use Rattle.bp_turn.specs.Seat.{first_seat};
 ghost use Rattle.bp_turn.specs.Views.{view_after_turn};
 
 use crate::bell::Bell;
-use crate::board::{Board, LENGTH, Place, SERVING, TICKET};
 use crate::plays::{Call, Draw, Give, Log, Look};
 use crate::seat::TurnSeat;
 use crate::story::Story;
+use crate::table::{LENGTH, LockTable, Place, SERVING, TICKET};
 use atomic_table::Table;
 use std::alloc::Global;
 use std::marker::Model;
@@ -26,7 +26,7 @@ pub struct Memory;
 /// A ticket lock over a value whose story only grows. Contracts see which lock it is, and seats name it by that.
 #[derive(Drop)]
 pub struct Turn<B: Story> {
-    pub(crate) board: Board<B>,
+    pub(crate) table: LockTable<B>,
     // Where threads sleep that have no ticket yet, and those that have one.
     door: Bell,
     line: Bell,
@@ -40,9 +40,9 @@ impl<B: Story> Model for Turn<B> {
 
     ghost coded = { table_id_coded };
 
-    ghost view = { λ t. t.board.shared.table_id };
+    ghost view = { λ t. t.table.shared.table_id };
 
-    ghost invariant = { λ t. (t.board.shared.table_id.words ≡ 3) × (t.board.shared.table_id.slots ≡ 1) };
+    ghost invariant = { λ t. (t.table.shared.table_id.words ≡ 3) × (t.table.shared.table_id.slots ≡ 1) };
 }
 
 impl<B: Story + Drop> Turn<B> {
@@ -58,9 +58,9 @@ impl<B: Story + Drop> Turn<B> {
             return Err(Memory);
         };
         match Table::new(alloc, &[length, 0, 0], slots, &about) {
-            Ok((board, place)) => {
+            Ok((table, place)) => {
                 let turn = Turn {
-                    board,
+                    table,
                     door: Bell::new(),
                     line: Bell::new(),
                 };
@@ -86,11 +86,11 @@ impl<B: Story> Turn<B> {
     {
         self.approach(rt);
         let ticket = self
-            .board
+            .table
             .shared
             .fetch_add::<Draw>(&mut seat.place, TICKET, 1);
         self.wait(rt, &mut seat.place, ticket);
-        match self.board.shared.exchange(&mut seat.place, 0, None) {
+        match self.table.shared.exchange(&mut seat.place, 0, None) {
             Some(value) => value,
             None => unreachable!(),
         }
@@ -126,7 +126,7 @@ impl<B: Story> Turn<B> {
         let _length = value.length();
         // The value goes back into the slot before the step on the length, since that step reads the entry there. The seat holds the slot until the next ticket is served, so no other thread can touch it in between.
         self.put_back(&mut seat.place, value);
-        self.board
+        self.table
             .shared
             .fetch_add::<Log>(&mut seat.place, LENGTH, 1);
         self.serve_next(&mut seat.place);
@@ -138,7 +138,7 @@ impl<B: Story> Turn<B> {
         ensures seat { seat.new ≡ record seat.old { looks = seat.old.looks ++ result ∷ [] } }
         ensures least { length seat.old.seen ≤ result }
     {
-        self.board.shared.load::<Look>(&mut seat.place, LENGTH)
+        self.table.shared.load::<Look>(&mut seat.place, LENGTH)
     }
 
     // Puts the value into the slot, which the seat holds.
@@ -148,7 +148,7 @@ impl<B: Story> Turn<B> {
         ensures place { (place.new.table_id ≡ place.old.table_id) × (place.new.id ≡ place.old.id) }
         ensures slot { place.new.me ≡ (place.old.me.0, (0, Some value) ∷ []) }
     {
-        let empty = self.board.shared.exchange(place, 0, Some(value));
+        let empty = self.table.shared.exchange(place, 0, Some(value));
         let None = empty else { unreachable!() };
     }
 
@@ -163,7 +163,7 @@ impl<B: Story> Turn<B> {
         ensures place { (place.new.table_id ≡ place.old.table_id) × (place.new.id ≡ place.old.id) }
         ensures turn { place.new.me ≡ (view_after_turn place.old.me.0, []) }
     {
-        self.board.shared.fetch_add::<Give>(place, SERVING, 1);
+        self.table.shared.fetch_add::<Give>(place, SERVING, 1);
         self.line.ring_for_all();
         self.door.ring_for_one();
     }
@@ -185,8 +185,8 @@ impl<B: Story> Turn<B> {
 
     // Whether no ticket is out, as far as two looks can tell.
     fn is_free(&self) -> bool {
-        let serving = self.board.shared.peek(SERVING);
-        serving == self.board.shared.peek(TICKET)
+        let serving = self.table.shared.peek(SERVING);
+        serving == self.table.shared.peek(TICKET)
     }
 
     // Sleeps until the ticket is served, and has the slot with the value then.
@@ -201,7 +201,7 @@ impl<B: Story> Turn<B> {
     {
         let mut asked = None;
         for _ in rt.forever() {
-            let serving = self.board.shared.load::<Call>(place, SERVING);
+            let serving = self.table.shared.load::<Call>(place, SERVING);
             if serving == ticket {
                 return;
             }

@@ -7,8 +7,9 @@ use Rattle.std.proofs.lemmas.List.FromFn.{length-map-range_with_len, get_or-map-
 use Rattle.bp_types.specs.declared.stay.Stay.{Stay}
 use Rattle.bp_types.specs.declared.command.Limits.{Limits}
 use Rattle.bp_types.specs.declared.house.HouseError.{HouseError}
-use Rattle.bp_types.specs.Limits.{IsWithinLimits, most_rooms}
-use Rattle.bp_types.specs.House.{Inn, IsHouse, house_refusal, unless_house, is_oversold, is_unit, most_house_rooms, units_left, opening}
+use Rattle.bp_types.specs.declared.limits.TheConstants.{MOST_UNITS, MOST_ROOMS}
+use Rattle.bp_types.specs.Limits.{IsWithinLimits}
+use Rattle.bp_types.specs.House.{Inn, IsHouse, house_refusal, unless_house, is_oversold, is_unit, units_left, opening}
 use Rattle.bp_types.proofs.Firsts.{none_passes}
 use Rattle.bp_types.proofs.LimitLemmas.{or_none, map_none, limits_from_no_refusal}
 
@@ -16,7 +17,7 @@ unless_house_none : (b : Bool) (e : HouseError) → unless_house b e ≡ None �
 unless_house_none true e h = refl
 unless_house_none false e h = (cc)
 
-house_rooms_below : most_house_rooms ≤ most_rooms
+house_rooms_below : MOST_ROOMS ≤ MOST_UNITS
 house_rooms_below = omega arith
 
 none_oversold : (rooms sold : List ℕ) → find (is_oversold rooms sold) (range_with_len 0 (length rooms)) ≡ None → EachIndex rooms (λ n. slice_index sold n ≤ slice_index rooms n)
@@ -31,7 +32,7 @@ house_from_no_refusal rooms sold stays limits none =
     let d = or_none _ _ b.1 in
     let e = or_none _ _ d.1 in
     let f = or_none _ _ e.1 in
-    let program = limits_from_no_refusal most_house_rooms rooms stays house_rooms_below (map_none _ _ a.0) in
+    let program = limits_from_no_refusal MOST_ROOMS rooms stays house_rooms_below (map_none _ _ a.0) in
     record {
       instance = program.0;
       rooms = program.1;
@@ -51,11 +52,11 @@ pub unit_is_small : (u : ℕ) → is_unit u ≡ true → (1 ≤ u) × (u ≤ 100
 unit_is_small u h = elim (unit_cases u h) [ inl one ↦ (omega arith, omega arith) | inr hundred ↦ (omega arith, omega arith) ]
 
 -- no night has more units left than an instance may have
-pub units_left_small : (h : Inn) (n : ℕ) → IsHouse h → n < length h.rooms → units_left h n ≤ most_rooms
+pub units_left_small : (h : Inn) (n : ℕ) → IsHouse h → n < length h.rooms → units_left h n ≤ MOST_UNITS
 units_left_small h n is in_range =
     let unit = unit_is_small h.limits.unit is.unit in
-    let rooms : slice_index h.rooms n ≤ 10000 = is.rooms n 0 in_range in
-    let left : slice_index h.rooms n - slice_index h.sold n ≤ 10000 = omega (arith, rooms) in
+    let rooms : slice_index h.rooms n ≤ MOST_ROOMS = is.rooms n 0 in_range in
+    let left : slice_index h.rooms n - slice_index h.sold n ≤ MOST_ROOMS = omega (arith, rooms) in
     omega (arith, mul-le-mul unit.1 left)
 
 -- the program of a house keeps to the limits

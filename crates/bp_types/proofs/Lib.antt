@@ -5,6 +5,9 @@ pub mod RoomLemmas
 pub mod PriceLemmas
 pub mod Duality
 pub mod LimitLemmas
+pub mod Fewer
+pub mod Joins
+pub mod Bands
 pub mod Unique
 pub mod Firsts
 pub mod HouseLemmas

@@ -5,8 +5,10 @@ use Rattle.std.specs.Option.{option_or, option_map}
 use Rattle.std.proofs.lemmas.List.Sums.{fails_before_first}
 use Rattle.std.proofs.lemmas.Bool.{cases_Bool, ltb-false, ltb-true, leb-true, and_parts, not-false}
 use Rattle.bp_types.specs.declared.stay.Stay.{Stay}
-use Rattle.bp_types.specs.declared.limits.InstanceError.{InstanceError}
-use Rattle.bp_types.specs.Limits.{refusal_above, unless, IsWithinLimits, is_within, is_rate, most_rooms, most_rate, most_forecast}
+use Rattle.bp_types.specs.declared.refusal.InstanceError.{InstanceError}
+use Rattle.bp_types.specs.declared.limits.TheConstants.{MOST_UNITS, MOST_RATE, MOST_FORECAST}
+use Rattle.bp_types.specs.Spans.{is_within}
+use Rattle.bp_types.specs.Limits.{refusal_above, unless, IsWithinLimits, is_rate}
 
 -- no element passes the test
 none_pass : {X : Type 0} (p : X → Bool) (xs : List X) → position p xs ≡ None → All (λ x. p x ≡ false) xs
@@ -34,16 +36,16 @@ spans_from_test nights stays h k d g =
     let parts = and_parts (nat_lt s.span.from s.span.to) (nat_le s.span.to nights) (not-false _ (h k d g)) in
     (ltb-true _ _ parts.0, leb-true _ _ parts.1)
 
-rates_from_test : (stays : List Stay) → All (λ s. not (is_rate s.rate) ≡ false) stays → All (λ s. (1 ≤ s.rate) × (s.rate ≤ most_rate)) stays
+rates_from_test : (stays : List Stay) → All (λ s. not (is_rate s.rate) ≡ false) stays → All (λ s. (1 ≤ s.rate) × (s.rate ≤ MOST_RATE)) stays
 rates_from_test stays h k d g =
     let s : Stay = get_or stays k d in
-    let parts = and_parts (nat_le 1 s.rate) (nat_le s.rate most_rate) (not-false _ (h k d g)) in
+    let parts = and_parts (nat_le 1 s.rate) (nat_le s.rate MOST_RATE) (not-false _ (h k d g)) in
     (leb-true _ _ parts.0, leb-true _ _ parts.1)
 
 below_more_is_below : (a b : ℕ) (xs : List ℕ) → a ≤ b → All (λ r. r ≤ a) xs → All (λ r. r ≤ b) xs
 below_more_is_below a b xs h each k x g = omega (arith, each k x g)
 
-pub limits_from_no_refusal : (most : ℕ) (rooms : List ℕ) (stays : List Stay) → most ≤ most_rooms → refusal_above most rooms stays ≡ None →
+pub limits_from_no_refusal : (most : ℕ) (rooms : List ℕ) (stays : List Stay) → most ≤ MOST_UNITS → refusal_above most rooms stays ≡ None →
     IsWithinLimits (record { rooms = rooms; stays = stays }) × All (λ r. r ≤ most) rooms
 limits_from_no_refusal most rooms stays small none =
     let a = or_none _ _ none in
@@ -57,10 +59,10 @@ limits_from_no_refusal most rooms stays small none =
         some_night = leb-true _ _ (unless_none _ _ a.0);
         nights = leb-true _ _ (unless_none _ _ b.0);
         stays = leb-true _ _ (unless_none _ _ c.0);
-        rooms = below_more_is_below most most_rooms rooms small each;
+        rooms = below_more_is_below most MOST_UNITS rooms small each;
         spans = spans_from_test (length rooms) stays (none_pass (λ s. not (is_within (length rooms) s.span)) stays (map_none _ _ e.0));
         rates = rates_from_test stays (none_pass (λ s. not (is_rate s.rate)) stays (map_none _ _ f.0));
-        forecasts = λ k x h. ltb-false _ _ (none_pass (λ s. nat_lt most_forecast s.forecast) stays (map_none _ _ f.1) k x h);
+        forecasts = λ k x h. ltb-false _ _ (none_pass (λ s. nat_lt MOST_FORECAST s.forecast) stays (map_none _ _ f.1) k x h);
       },
       each,
     )

@@ -7,7 +7,8 @@ use Rattle.bp_types.specs.declared.change.Change.TheVariants.{Rooms}
 use Rattle.bp_types.specs.Program.{Program}
 use Rattle.bp_types.specs.Rooms.{moved, room_moved, rooms_moved}
 use Rattle.bp_types.specs.Changes.{changed, Fits}
-use Rattle.bp_types.specs.Limits.{IsWithinLimits, most_rooms}
+use Rattle.bp_types.specs.declared.limits.TheConstants.{MOST_UNITS}
+use Rattle.bp_types.specs.Limits.{IsWithinLimits}
 use Rattle.bp_types.proofs.Spans.{covers_inside, covers_before, covers_past}
 
 pub length-rooms_moved : (rooms : List ℕ) (s : Span) (up : Bool) (units : ℕ) → length (rooms_moved rooms s up units) ≡ length rooms
@@ -36,9 +37,9 @@ moved_by_all old new s up units each done left = fill_by_all (room_moved old s u
     ])
 
 -- rooms that keep to their limit on the span keep to it
-room_in_limit : (p : Program) (s : Span) (up : Bool) (units n : ℕ) → IsWithinLimits p → Fits p (Rooms s up units) → n < length p.rooms → room_moved p.rooms s up units n ≤ most_rooms
+room_in_limit : (p : Program) (s : Span) (up : Bool) (units n : ℕ) → IsWithinLimits p → Fits p (Rooms s up units) → n < length p.rooms → room_moved p.rooms s up units n ≤ MOST_UNITS
 room_in_limit p s up units n limits fits h =
-    let was : slice_index p.rooms n ≤ most_rooms = limits.rooms n 0 h in
+    let was : slice_index p.rooms n ≤ MOST_UNITS = limits.rooms n 0 h in
     elim (cases_lt n s.from) [
       | inl before ↦ let e = room_moved-before p.rooms s up units n before in omega (arith, e, was)
       | inr above ↦ elim (cases_lt n s.to) [
@@ -47,7 +48,7 @@ room_in_limit p s up units n limits fits h =
       ]
     ]
   where
-    in_span : (up : Bool) → Fits p (Rooms s up units) → s.from ≤ n → n < s.to → slice_index p.rooms n ≤ most_rooms → moved (slice_index p.rooms n) up units ≤ most_rooms
+    in_span : (up : Bool) → Fits p (Rooms s up units) → s.from ≤ n → n < s.to → slice_index p.rooms n ≤ MOST_UNITS → moved (slice_index p.rooms n) up units ≤ MOST_UNITS
     in_span true fits above below was = fits.1 n above below
     in_span false fits above below was = omega (arith, was)
 

@@ -1,12 +1,13 @@
--- One change of a program.
-use Rattle.std.specs.Prelude.{ℕ, ◌+◌, ◌≤◌, ◌<◌, MatchBool, List, length, slice_index, slice_set}
+-- Changes of a program: one, and several made one after another.
+use Rattle.std.specs.Prelude.{◌≡◌, ℕ, ◌+◌, ◌≤◌, ◌<◌, MatchBool, List, [], ◌∷◌, length, slice_index, slice_set}
 use Rattle.bp_types.specs.declared.stay.Span.{Span}
 use Rattle.bp_types.specs.declared.stay.Stay.{Stay}
 use Rattle.bp_types.specs.declared.change.Change.{Change}
 use Rattle.bp_types.specs.declared.change.Change.TheVariants.{Rooms, Demand, Rate}
 use Rattle.bp_types.specs.Program.{Program, stay_at}
 use Rattle.bp_types.specs.Rooms.{rooms_moved}
-use Rattle.bp_types.specs.Limits.{most_rooms, most_rate, most_forecast}
+use Rattle.bp_types.specs.declared.limits.TheConstants.{MOST_UNITS, MOST_RATE, MOST_FORECAST}
+use Rattle.bp_types.specs.Spans.{IsSpanWithin}
 
 -- the stay with another forecast
 abbrev pub with_forecast : Stay → ℕ → Stay
@@ -32,20 +33,35 @@ stays_after p (Rate stay value) = slice_set p.stays stay (with_rate (stay_at p s
 abbrev pub changed : Program → Change → Program
 changed p c = record { rooms = rooms_after p c; stays = stays_after p c }
 
--- a span of one night at least, within the nights of the program
-abbrev pub IsSpanOf : Program → Span → Type 0
-IsSpanOf p s = (s.from < s.to) × (s.to ≤ length p.rooms)
-
 -- each night of the span has so many units
 abbrev pub HasUnits : Program → Span → ℕ → Type 0
 HasUnits p s units = (n : ℕ) → s.from ≤ n → n < s.to → units ≤ slice_index p.rooms n
 
 -- each night of the span has room for so many units more
 abbrev pub TakesUnits : Program → Span → ℕ → Type 0
-TakesUnits p s units = (n : ℕ) → s.from ≤ n → n < s.to → slice_index p.rooms n + units ≤ most_rooms
+TakesUnits p s units = (n : ℕ) → s.from ≤ n → n < s.to → slice_index p.rooms n + units ≤ MOST_UNITS
 
 -- the change keeps to the limits: its places are there, and its values and the rooms after it are in range
 abbrev pub Fits : Program → Change → Type 0
-Fits p (Rooms span up units) = IsSpanOf p span × MatchBool up (TakesUnits p span units) (HasUnits p span units)
-Fits p (Demand stay value) = (stay < length p.stays) × (value ≤ most_forecast)
-Fits p (Rate stay value) = (stay < length p.stays) × (1 ≤ value) × (value ≤ most_rate)
+Fits p (Rooms span up units) = IsSpanWithin (length p.rooms) span × MatchBool up (TakesUnits p span units) (HasUnits p span units)
+Fits p (Demand stay value) = (stay < length p.stays) × (value ≤ MOST_FORECAST)
+Fits p (Rate stay value) = (stay < length p.stays) × (1 ≤ value) × (value ≤ MOST_RATE)
+
+-- the program after the changes, in their order
+abbrev pub changed_by_all : Program → List Change → Program
+changed_by_all p [] = p
+changed_by_all p (change ∷ changes) = changed_by_all (changed p change) changes
+
+-- each change keeps to the limits of the program that it comes to
+abbrev pub FitInTurn : Program → List Change → Type 0
+FitInTurn p [] = Unit {0}
+FitInTurn p (change ∷ changes) = Fits p change × FitInTurn (changed p change) changes
+
+-- the changes may be made one after another, and make the one program the other
+pub record Leads (p : Program) (changes : List Change) (q : Program) : Type 0 where
+  pub fits : FitInTurn p changes
+  pub gives : changed_by_all p changes ≡ q
+
+-- a name that goes once nobody cites it
+abbrev pub IsSpanOf : Program → Span → Type 0
+IsSpanOf p s = IsSpanWithin (length p.rooms) s

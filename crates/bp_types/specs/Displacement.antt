@@ -3,7 +3,9 @@ use Rattle.std.specs.Prelude.{◌≡◌, ℕ, ◌+◌, ◌<◌, true, false, len
 use Rattle.bp_types.specs.declared.stay.Span.{Span}
 use Rattle.bp_types.specs.declared.change.Change.TheVariants.{Rooms}
 use Rattle.bp_types.specs.Program.{Program}
-use Rattle.bp_types.specs.Changes.{changed, IsSpanOf, HasUnits}
+use Rattle.bp_types.specs.declared.limits.TheConstants.{MOST_ROOMS}
+use Rattle.bp_types.specs.Spans.{IsSpanWithin}
+use Rattle.bp_types.specs.Changes.{changed, HasUnits}
 use Rattle.bp_types.specs.Optimum.{IsOptimum}
 
 -- the program with so many units fewer on each night of a span
@@ -16,7 +18,7 @@ with_more p span units = changed p (Rooms span true units)
 
 -- what the optimum loses where so many units are taken from each night of a span
 pub record IsDisplacement (p : Program) (span : Span) (units cost : ℕ) : Type 0 where
-  pub in_range : IsSpanOf p span
+  pub in_range : IsSpanWithin (length p.rooms) span
   pub has_units : HasUnits p span units
   pub before : ℕ
   pub after : ℕ
@@ -28,14 +30,10 @@ pub record IsDisplacement (p : Program) (span : Span) (units cost : ℕ) : Type 
 abbrev pub night_span : ℕ → Span
 night_span n = record { from = n; to = n + 1 }
 
--- the greatest number of rooms for which a gain is told
-abbrev pub most_rooms_of_band : ℕ
-most_rooms_of_band = 10000
-
--- what one room more on a night brings
+-- what one room more on a night brings, where the night has fewer than a problem may have
 pub record IsGain (p : Program) (night gain : ℕ) : Type 0 where
   pub in_range : night < length p.rooms
-  pub has_space : slice_index p.rooms night < most_rooms_of_band
+  pub has_space : slice_index p.rooms night < MOST_ROOMS
   pub before : ℕ
   pub after : ℕ
   pub optimum : IsOptimum p before

@@ -6,6 +6,7 @@ use Rattle.bp_types.specs.declared.stay.Stay.{Stay}
 use Rattle.bp_types.specs.declared.command.Limits.{Limits}
 use Rattle.bp_types.specs.declared.house.HouseError.{HouseError}
 use Rattle.bp_types.specs.declared.house.HouseError.TheVariants.{Instance, SoldLength, Sold, StaleAfter, Entries, Publications, Unit as WrongUnit}
+use Rattle.bp_types.specs.declared.limits.TheConstants.{MOST_ROOMS, MOST_STALE_AFTER, MOST_ENTRIES, MOST_PUBLICATIONS, HUNDREDTHS}
 use Rattle.bp_types.specs.Program.{Program}
 use Rattle.bp_types.specs.Limits.{refusal_above, IsWithinLimits}
 
@@ -16,29 +17,13 @@ pub record Inn : Type 0 where
   pub stays : List Stay
   pub limits : Limits
 
--- rooms of a night, of a house
-abbrev pub most_house_rooms : ℕ
-most_house_rooms = 10000
-
--- changes after which a booking waits for a new vector
-abbrev pub most_stale_after : ℕ
-most_stale_after = 100000
-
--- command entries of a history
-abbrev pub most_entries : ℕ
-most_entries = 200000
-
--- vectors of a history
-abbrev pub most_publications : ℕ
-most_publications = 1000
-
 -- from one up to a greatest number
 abbrev pub is_from_one : ℕ → ℕ → Bool
 is_from_one most n = nat_le 1 n && nat_le n most
 
 -- whole rooms, or hundredths
 abbrev pub is_unit : ℕ → Bool
-is_unit u = (u == 1) || (u == 100)
+is_unit u = (u == 1) || (u == HUNDREDTHS)
 
 -- more rooms of the night are sold than there are
 abbrev pub is_oversold : List ℕ → List ℕ → ℕ → Bool
@@ -51,9 +36,9 @@ unless_house b e = if b then None else Some e
 -- the limits of the desk in their order
 abbrev pub limits_refusal : Limits → Option HouseError
 limits_refusal l =
-    option_or (unless_house (is_from_one most_stale_after l.stale_after) StaleAfter)
-    (option_or (unless_house (is_from_one most_entries l.entries) Entries)
-    (option_or (unless_house (is_from_one most_publications l.publications) Publications)
+    option_or (unless_house (is_from_one MOST_STALE_AFTER l.stale_after) StaleAfter)
+    (option_or (unless_house (is_from_one MOST_ENTRIES l.entries) Entries)
+    (option_or (unless_house (is_from_one MOST_PUBLICATIONS l.publications) Publications)
     (unless_house (is_unit l.unit) WrongUnit)))
 
 -- what is wrong with the rooms sold
@@ -65,18 +50,18 @@ sold_refusal rooms sold =
 -- the refusals of a house in their order, each at its first place
 abbrev pub house_refusal : List ℕ → List ℕ → List Stay → Limits → Option HouseError
 house_refusal rooms sold stays limits =
-    option_or (option_map Instance (refusal_above most_house_rooms rooms stays))
+    option_or (option_map Instance (refusal_above MOST_ROOMS rooms stays))
     (option_or (sold_refusal rooms sold) (limits_refusal limits))
 
 -- every value of a house is within its limit
 pub record IsHouse (h : Inn) : Type 0 where
   pub instance : IsWithinLimits (record { rooms = h.rooms; stays = h.stays })
-  pub rooms : All (λ r. r ≤ most_house_rooms) h.rooms
+  pub rooms : All (λ r. r ≤ MOST_ROOMS) h.rooms
   pub one_each : length h.sold ≡ length h.rooms
   pub sold : EachIndex h.rooms (λ n. slice_index h.sold n ≤ slice_index h.rooms n)
-  pub stale_after : IsTrue (is_from_one most_stale_after h.limits.stale_after)
-  pub entries : IsTrue (is_from_one most_entries h.limits.entries)
-  pub publications : IsTrue (is_from_one most_publications h.limits.publications)
+  pub stale_after : IsTrue (is_from_one MOST_STALE_AFTER h.limits.stale_after)
+  pub entries : IsTrue (is_from_one MOST_ENTRIES h.limits.entries)
+  pub publications : IsTrue (is_from_one MOST_PUBLICATIONS h.limits.publications)
   pub unit : IsTrue (is_unit h.limits.unit)
 
 -- the units left on a night
@@ -86,3 +71,10 @@ units_left h n = h.limits.unit * (slice_index h.rooms n - slice_index h.sold n)
 -- the program of a house in its units: the rooms left, and the stays
 abbrev pub opening : Inn → Program
 opening h = record { rooms = map (units_left h) (range_with_len 0 (length h.rooms)); stays = h.stays }
+
+-- names that go once nobody cites them
+abbrev pub most_house_rooms : ℕ
+most_house_rooms = MOST_ROOMS
+
+abbrev pub most_entries : ℕ
+most_entries = MOST_ENTRIES

@@ -1,10 +1,11 @@
 pub mod Sums
 pub mod Program
+pub mod Spans
 pub mod Limits
 pub mod Rooms
 pub mod Changes
-pub mod Claim
 pub mod Optimum
+pub mod Claim
 pub mod Prices
 pub mod Displacement
 pub mod Laws

@@ -1,5 +1,6 @@
 -- Feasible allocations, certificates, the optimum and the least prices.
 use Rattle.std.specs.Prelude.{◌≡◌, ℕ, ◌+◌, ◌*◌, ◌-◌, ◌≤◌, ◌<◌, List, length, slice_index, All, EachIndex}
+use Rattle.bp_types.specs.declared.limits.TheConstants.{MOST_PRICE}
 use Rattle.bp_types.specs.Program.{Program, stay_at, load, worth, bound}
 use Rattle.bp_types.specs.Sums.{sum_below}
 
@@ -13,15 +14,11 @@ pub record IsFeasibleAtScale (p : Program) (scale : ℕ) (sell : List ℕ) : Typ
 abbrev pub IsFeasible : Program → List ℕ → Type 0
 IsFeasible p sell = IsFeasibleAtScale p 1 sell
 
--- the greatest price of a night
-abbrev pub greatest_price : ℕ
-greatest_price = 1000000000
-
 -- an allocation and prices of one value
 pub record Certifies (p : Program) (value : ℕ) (sell prices : List ℕ) : Type 0 where
   pub feasible : IsFeasible p sell
   pub one_each : length prices ≡ length p.rooms
-  pub within_limit : All (λ x. x ≤ greatest_price) prices
+  pub within_limit : All (λ x. x ≤ MOST_PRICE) prices
   pub worth_is : worth p sell ≡ value
   pub bound_is : bound p prices ≡ value
 
@@ -48,3 +45,7 @@ pub record AreSuffixSums (u : ℕ → ℕ) (prices : List ℕ) : Type 0 where
 pub record AreLeastPrices (p : Program) (prices : List ℕ) : Type 0 where
   pub optimal : AreOptimalPrices p prices
   pub least : (others : List ℕ) → AreOptimalPrices p others → (n : ℕ) → price_from prices n ≤ price_from others n
+
+-- a name that goes once nobody cites it
+abbrev pub greatest_price : ℕ
+greatest_price = MOST_PRICE

@@ -1,3 +1,7 @@
+ghost use Rattle.std.specs.Prelude.{◌≡◌, IfOk};
+
+use crate::Memory;
+use std::alloc::Global;
 use std::marker::Model;
 
 /// An allocation and bid prices, with the value that both are said to have.
@@ -19,4 +23,19 @@ impl Model for Certificate {
     ghost Value = { Claim };
 
     ghost view = { λ a. record { value = a.value; sell = a.sell.items; prices = a.prices.items } };
+}
+
+impl Certificate {
+    /// A copy, the same in every value.
+    pub fn copy(&self, alloc: Global) -> Result<Certificate, Memory>
+        ensures { IfOk result (λ c. c ≡ self.now) }
+    {
+        let sell = Vec::from_slice(alloc, &self.sell)?;
+        let prices = Vec::from_slice(alloc, &self.prices)?;
+        Ok(Certificate {
+            value: self.value,
+            sell,
+            prices,
+        })
+    }
 }

@@ -1,22 +1,16 @@
 ghost use Rattle.std.specs.Prelude.{◌≡◌, ◌<◌, ◌-◌, ◌≤◌, length, map, nat_lt, slice_index, MatchResult, IfOk, IsTrue};
 ghost use Rattle.std.specs.List.{find, range_with_len};
+ghost use Rattle.bp_types.specs.declared.limits.TheConstants.{MOST_NIGHTS};
 ghost use Rattle.bp_types.specs.Program.{no_stay};
 ghost use Rattle.bp_types.specs.House.{Inn, IsHouse, house_refusal, limits_refusal, sold_refusal, is_from_one, is_oversold, units_left, opening};
 ghost use Rattle.std.specs.Prelude.{slice_index_or};
 
-use crate::limits::refusal_of;
+use crate::limits::{HUNDREDTHS, MOST_ENTRIES, MOST_PUBLICATIONS, MOST_ROOMS, MOST_STALE_AFTER};
+use crate::refusal::refusal_of;
 use crate::{Instance, InstanceError, Limits, Memory, Stay};
 use std::alloc::Global;
 use std::marker::Model;
 use thiserror::Error;
-
-const MOST_ROOMS: u64 = 10_000;
-
-const MOST_STALE_AFTER: u64 = 100_000;
-
-const MOST_ENTRIES: u64 = 200_000;
-
-const MOST_PUBLICATIONS: u64 = 1_000;
 
 /// The first limit that a house breaks, in the order of these variants, each at its first place.
 #[derive(Clone, Copy, Debug, PartialEq, Eq, Error)]
@@ -165,7 +159,7 @@ fn is_from_one(most: u64, number: u64) -> bool
 
 fn oversold_night(rooms: &[u64], sold: &[u64]) -> Option<u32>
     requires one_each { length sold.now ≡ length rooms.now }
-    requires short { length rooms.now ≤ 400 }
+    requires short { length rooms.now ≤ MOST_NIGHTS }
     ensures { result ≡ find (is_oversold rooms.now sold.now) (range_with_len 0 (length rooms.now)) }
 {
     for night in 0..rooms.len() {
@@ -177,7 +171,7 @@ fn oversold_night(rooms: &[u64], sold: &[u64]) -> Option<u32>
 }
 
 fn sold_refusal_of(rooms: &[u64], sold: &[u64]) -> Option<HouseError>
-    requires { length rooms.now ≤ 400 }
+    requires { length rooms.now ≤ MOST_NIGHTS }
     ensures { result ≡ sold_refusal rooms.now sold.now }
 {
     if sold.len() != rooms.len() {
@@ -201,7 +195,7 @@ fn limits_refusal_of(limits: Limits) -> Option<HouseError>
     if !is_from_one(MOST_PUBLICATIONS, limits.publications) {
         return Some(HouseError::Publications);
     }
-    if limits.unit != 1 && limits.unit != 100 {
+    if limits.unit != 1 && limits.unit != HUNDREDTHS {
         return Some(HouseError::Unit);
     }
     None

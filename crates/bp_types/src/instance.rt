@@ -5,8 +5,9 @@ ghost use Rattle.bp_types.specs.Changes.{changed, Fits};
 ghost use Rattle.bp_types.specs.Prices.{SumUp};
 
 use crate::change::move_rooms;
-use crate::limits::{MOST_ROOMS, refusal_of};
+use crate::limits::MOST_UNITS;
 use crate::prices::PriceSums;
+use crate::refusal::refusal_of;
 use crate::{Change, InstanceError, Memory, Stay};
 use std::alloc::Global;
 use std::marker::Model;
@@ -38,7 +39,7 @@ impl Instance {
             (λ p. (p.rooms ≡ rooms.items) × (p.stays ≡ stays.items) × (refusal rooms.items stays.items ≡ None))
             (λ e. refusal rooms.items stays.items ≡ Some e) }
     {
-        match refusal_of(&rooms, &stays, MOST_ROOMS) {
+        match refusal_of(&rooms, &stays, MOST_UNITS) {
             Some(error) => Err(error),
             None => Ok(Instance { rooms, stays }),
         }

@@ -1,95 +1,46 @@
-ghost use Rattle.std.specs.Prelude.{◌≡◌, ◌<◌, ◌≤◌, length, nat_lt, not};
-ghost use Rattle.std.specs.List.{position};
-ghost use Rattle.bp_types.specs.Limits.{refusal_above, is_within, is_rate, most_forecast};
+//! The limits of what the program takes and makes. Code, contracts and definitions of every crate cite these.
 
-use crate::Stay;
-use thiserror::Error;
+/// Nights of an instance, at most.
+pub const MOST_NIGHTS: usize = 400;
 
-const MOST_NIGHTS: usize = 400;
+/// Nodes of an instance's network, at most: one for each night, and one for the morning after the last.
+pub const MOST_NODES: usize = MOST_NIGHTS + 1;
 
-const MOST_STAYS: usize = 4_000;
+/// Stays of an instance, at most.
+pub const MOST_STAYS: usize = 4_000;
 
-pub(crate) const MOST_ROOMS: u64 = 1_000_000;
+/// Rooms of a night in units, of an instance, at most.
+pub const MOST_UNITS: u64 = 1_000_000;
 
-const MOST_RATE: u64 = 1_000_000_000;
+/// Rooms of a night in whole rooms, of a house or a problem text, at most.
+pub const MOST_ROOMS: u64 = 10_000;
 
-const MOST_FORECAST: u64 = 1_000_000;
+/// The rate of a stay, at most, in minor units of money. A rate is 1 at least.
+pub const MOST_RATE: u64 = 1_000_000_000;
 
-/// The first limit that an instance breaks, in the order of these variants, each at its first place.
-#[derive(Clone, Copy, Debug, PartialEq, Eq, Error)]
-pub enum InstanceError {
-    #[error("there is no night")]
-    NoNights,
-    #[error("there are more than 400 nights")]
-    TooManyNights,
-    #[error("there are more than 4000 stays")]
-    TooManyStays,
-    /// More than 1,000,000 units on this night; of a house, more than 10,000 rooms.
-    #[error("night {night} has too many rooms")]
-    Rooms { night: u32 },
-    /// The stay has no night, or one past the last.
-    #[error("stay {stay} is not within the nights")]
-    SpanOut { stay: u32 },
-    /// The rate is 0, or above 1,000,000,000.
-    #[error("the rate of stay {stay} is outside 1 to 1000000000")]
-    Rate { stay: u32 },
-    /// The forecast is above 1,000,000 units.
-    #[error("the forecast of stay {stay} is above 1000000")]
-    Forecast { stay: u32 },
-}
+/// The price of a night, at most, in minor units of money.
+pub const MOST_PRICE: u64 = MOST_RATE;
 
-fn night_with_too_many_rooms(rooms: &[u64], most: u64) -> Option<usize>
-    ensures { result ≡ position (λ r. nat_lt most r) rooms.now }
-{
-    rooms.iter().position(|r| *r > most)
-}
+/// The forecast of a stay, at most, in units.
+pub const MOST_FORECAST: u64 = MOST_UNITS;
 
-fn stay_out_of_range(nights: usize, stays: &[Stay]) -> Option<usize>
-    ensures { result ≡ position (λ s. not (is_within nights s.span)) stays.now }
-{
-    stays.iter().position(|s| !(s.span.from < s.span.to && s.span.to as usize <= nights))
-}
+/// The number of changes after which a booking waits for a new vector, at most. It is 1 at least.
+pub const MOST_STALE_AFTER: u64 = 100_000;
 
-fn stay_of_wrong_rate(stays: &[Stay]) -> Option<usize>
-    ensures { result ≡ position (λ s. not (is_rate s.rate)) stays.now }
-{
-    stays
-        .iter()
-        .position(|s| !(1 <= s.rate && s.rate <= MOST_RATE))
-}
+/// Command entries of a history, at most. A house allows 1 at least.
+pub const MOST_ENTRIES: u64 = 200_000;
 
-fn stay_of_great_forecast(stays: &[Stay]) -> Option<usize>
-    ensures { result ≡ position (λ s. nat_lt most_forecast s.forecast) stays.now }
-{
-    stays.iter().position(|s| s.forecast > MOST_FORECAST)
-}
+/// Vectors of a history, at most. A house allows 1 at least.
+pub const MOST_PUBLICATIONS: u64 = 1_000;
 
-/// The first limit that rooms and stays break, where a night has so many rooms at most.
-pub(crate) fn refusal_of(rooms: &[u64], stays: &[Stay], most: u64) -> Option<InstanceError>
-    ensures { result ≡ refusal_above most rooms.now stays.now }
-{
-    if rooms.is_empty() {
-        return Some(InstanceError::NoNights);
-    }
-    if rooms.len() > MOST_NIGHTS {
-        return Some(InstanceError::TooManyNights);
-    }
-    if stays.len() > MOST_STAYS {
-        return Some(InstanceError::TooManyStays);
-    }
-    if let Some(night) = night_with_too_many_rooms(rooms, most) {
-        return Some(InstanceError::Rooms {
-            night: night as u32,
-        });
-    }
-    if let Some(stay) = stay_out_of_range(rooms.len(), stays) {
-        return Some(InstanceError::SpanOut { stay: stay as u32 });
-    }
-    if let Some(stay) = stay_of_wrong_rate(stays) {
-        return Some(InstanceError::Rate { stay: stay as u32 });
-    }
-    if let Some(stay) = stay_of_great_forecast(stays) {
-        return Some(InstanceError::Forecast { stay: stay as u32 });
-    }
-    None
-}
+/// Units of one room where a house counts in hundredths.
+pub const HUNDREDTHS: u64 = 100;
+
+/// Numbers of callers: 0 is the opener's, the others are handed out.
+pub const CALLERS: usize = 64;
+
+/// Rooms of a group, at most. A group has 1 at least.
+pub const MOST_GROUP_ROOMS: u64 = MOST_ROOMS;
+
+/// The amount that a group pays, at most, in minor units of money.
+pub const MOST_AMOUNT: u64 = 1_000_000_000_000_000;

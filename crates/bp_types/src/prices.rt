@@ -1,24 +1,23 @@
 ghost use Rattle.std.specs.Prelude.{◌≡◌, ◌-◌, ◌≤◌, length, slice_index};
+ghost use Rattle.bp_types.specs.declared.limits.TheConstants.{MOST_NIGHTS};
 ghost use Rattle.bp_types.specs.Prices.{SumUp};
 
 use crate::Span;
-
-/// One place for each night, and one for the morning after the last.
-const PLACES: usize = 401;
+use crate::limits::MOST_NODES;
 
 /// The sums of prices from each night to the last one, from which the price of a span is one difference.
 #[derive(Clone, Copy)]
 pub(crate) struct PriceSums {
-    sums: [u128; PLACES],
+    sums: [u128; MOST_NODES],
 }
 
 impl PriceSums {
     /// The sums of one price per night.
     pub(crate) fn of(prices: &[u64]) -> PriceSums
-        requires { length prices.now ≤ 400 }
+        requires { length prices.now ≤ MOST_NIGHTS }
         ensures { SumUp prices.now result.sums }
     {
-        let mut sums = [0; PLACES];
+        let mut sums = [0; MOST_NODES];
         let nights = prices.len();
         let mut sum: u128 = 0;
         for gone in 0..nights {
@@ -32,7 +31,7 @@ impl PriceSums {
     /// The price of a span within the nights.
     pub(crate) fn price(&self, span: Span) -> u128
         requires ordered { span.from ≤ span.to }
-        requires within { span.to ≤ 400 }
+        requires within { span.to ≤ MOST_NIGHTS }
         ensures { result ≡ slice_index self.now.sums span.from - slice_index self.now.sums span.to }
     {
         self.sums[span.from as usize].saturating_sub(self.sums[span.to as usize])

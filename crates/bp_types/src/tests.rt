@@ -319,3 +319,17 @@ fn rooms_are_put_on_each_night_of_a_span(rt: HostRuntime) -> Result<(), Fail> {
     assert_eq!(rt; instance.rooms(2), 7);
     Ok(())
 }
+
+#[test]
+fn a_certificate_is_copied_whole(rt: HostRuntime) -> Result<(), Fail> {
+    let certificate = Certificate {
+        value: 250,
+        sell: Vec::from_slice(rt.alloc(), &[0, 1, 1, 1])?,
+        prices: Vec::from_slice(rt.alloc(), &[0, 100, 40])?,
+    };
+    let copy = certificate.copy(rt.alloc())?;
+    assert_eq!(rt; copy.value, 250);
+    assert!(rt; copy.sell.as_slice() == [0, 1, 1, 1].as_slice());
+    assert!(rt; copy.prices.as_slice() == [0, 100, 40].as_slice());
+    Ok(())
+}

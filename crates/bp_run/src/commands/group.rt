@@ -1,6 +1,6 @@
 //! `group PROBLEM FROM TO ROOMS`: what a group displaces.
-ghost use Rattle.std.specs.Prelude.{◌≡◌, ◌<◌, IfOk, string_bytes};
-ghost use Rattle.bp_types.specs.Changes.{IsSpanOf};
+ghost use Rattle.std.specs.Prelude.{◌≡◌, ◌<◌, IfOk, length, string_bytes};
+ghost use Rattle.bp_types.specs.Spans.{IsSpanWithin};
 ghost use Rattle.bp_run.specs.Fetches.{over};
 ghost use Rattle.bp_run.specs.Command.{Brings};
 ghost use Rattle.bp_run.specs.Group.{IsGroupAnswer, group_command, group_said, group_status};
@@ -75,7 +75,7 @@ fn quoted<L: Ledger>(
     requires name { blank.name ≡ L.name }
     requires parts { blank.parts ≡ L.parts }
     requires some { 0 < blank.parts }
-    requires span { IsSpanOf instance.now span }
+    requires span { IsSpanWithin (length instance.now.rooms) span }
     ensures { IfOk result (IsGroupAnswer instance.now span rooms) }
 {
     law::certificate_is_optimal();

@@ -2,7 +2,8 @@
 ghost use Rattle.std.specs.Prelude.{◌≡◌, ◌<◌, IfOk};
 ghost use Rattle.bp_run.specs.Fetches.{over};
 ghost use Rattle.bp_run.specs.Command.{Brings};
-ghost use Rattle.bp_run.specs.Solve.{IsLeastCertificate, solve_command};
+ghost use Rattle.bp_types.specs.Claim.{IsLeastCertificate};
+ghost use Rattle.bp_run.specs.Solve.{solve_command};
 
 use crate::files::load;
 use crate::files::problem::ProblemFile;

@@ -1,6 +1,6 @@
 use Rattle.std.proofs.lemmas.Result.{err_from_is_err_and}
 use Rattle.bp_cert.specs.Texts.{all_certificate_lines, IsSpeakable}
-use Rattle.bp_cert.proofs.StageLemmas.{refused_at, no_lines, one_more_line, more_lines}
+use Rattle.bp_text.proofs.StageLemmas.{refused_at, no_lines, one_more_line, more_lines}
 use Rattle.bp_cert.proofs.ClaimLemmas.{stage_first, stage_end, refused_claim}
 use Rattle.bp_cert.proofs.certificate_text.read_lines.Goals as goal
 

@@ -1,6 +1,6 @@
 use Rattle.bp_cert.specs.Texts.{all_certificate_lines, IsSpeakable}
-use Rattle.bp_cert.proofs.SpellingLemmas.{one_spelling, prefix_free}
-use Rattle.bp_cert.proofs.OneWayLemmas.{one_way}
+use Rattle.bp_text.proofs.SpellingLemmas.{one_spelling, prefix_free}
+use Rattle.bp_text.proofs.OneWayLemmas.{one_way}
 use Rattle.bp_cert.proofs.KindLemmas.{certificates_are_spelled}
 use Rattle.bp_cert.proofs.law.certificates_have_one_spelling.Goals as goal
 

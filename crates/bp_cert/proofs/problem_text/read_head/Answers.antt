@@ -1,8 +1,8 @@
 use Rattle.std.proofs.Common.{◌≡◌, ℕ, List, length, subst, sym, arith, ◌∷◌, []}
 use Rattle.std.proofs.lemmas.Result.{err_from_is_err_and}
-use Rattle.bp_cert.specs.Reading.{GivesLines}
+use Rattle.bp_text.specs.Reading.{GivesLines}
 use Rattle.bp_cert.specs.Texts.{problem_lines, IsProblem, IsHead}
-use Rattle.bp_cert.proofs.StageLemmas.{refused_at, no_lines, one_more_line}
+use Rattle.bp_text.proofs.StageLemmas.{refused_at, no_lines, one_more_line}
 use Rattle.bp_cert.proofs.ProblemLemmas.{stage_first, stage_nights, stage_rooms, stage_count, first_line, nights_line, rooms_line, count_line}
 use Rattle.bp_cert.proofs.problem_text.read_head.Goals as goal
 

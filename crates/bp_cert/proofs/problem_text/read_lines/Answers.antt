@@ -2,9 +2,9 @@ use Rattle.std.proofs.Common.{◌≡◌, ℕ, List, length, subst, sym}
 use Rattle.std.proofs.lemmas.Result.{err_from_is_err_and}
 use Rattle.bp_types.specs.declared.stay.Stay.{Stay}
 use Rattle.bp_types.specs.Program.{Program}
-use Rattle.bp_cert.specs.Reading.{GivesLines, Spells}
+use Rattle.bp_text.specs.Reading.{GivesLines, Spells}
 use Rattle.bp_cert.specs.Texts.{problem_lines, head_lines, AreStaysWithin, IsProblem, IsHead}
-use Rattle.bp_cert.proofs.StageLemmas.{refused_at, more_lines}
+use Rattle.bp_text.proofs.StageLemmas.{refused_at, more_lines}
 use Rattle.bp_cert.proofs.ProblemLemmas.{stage_end, whole_problem}
 use Rattle.bp_cert.proofs.problem_text.read_lines.Goals as goal
 

@@ -1,9 +1,9 @@
 use Rattle.std.proofs.Common.{subst}
 use Rattle.std.proofs.lemmas.Result.{err_from_is_err_and}
-use Rattle.bp_cert.specs.Lines.{Given}
-use Rattle.bp_cert.specs.Reading.{Spells}
+use Rattle.bp_text.specs.Lines.{Given}
+use Rattle.bp_text.specs.Reading.{Spells}
 use Rattle.bp_cert.specs.Texts.{problem_lines, IsProblem}
-use Rattle.bp_cert.proofs.WholeLemmas.{trailed_text}
+use Rattle.bp_text.proofs.WholeLemmas.{trailed_text}
 use Rattle.bp_cert.proofs.problem_text.read_problem.Goals as goal
 
 pub returns-in_err-at_end : goal.returns-in_err-at_end

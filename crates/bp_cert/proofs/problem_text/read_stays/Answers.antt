@@ -1,9 +1,8 @@
 use Rattle.std.proofs.Common.{◌∷◌, [], length, ap, arith, length-append}
 use Rattle.std.proofs.lemmas.Result.{err_from_is_err_and}
 use Rattle.bp_cert.specs.Texts.{problem_lines, IsProblem}
-use Rattle.bp_cert.proofs.StageLemmas.{refused_at, stopped_at, more_lines}
-use Rattle.bp_cert.proofs.WholeLemmas.{one_stay_more}
-use Rattle.bp_cert.proofs.ProblemLemmas.{stage_stay}
+use Rattle.bp_text.proofs.StageLemmas.{refused_at, stopped_at, more_lines}
+use Rattle.bp_cert.proofs.ProblemLemmas.{stage_stay, one_stay_more}
 use Rattle.bp_cert.proofs.problem_text.read_stays.Goals as goal
 
 pub returns-in_err-stay : goal.returns-in_err-stay

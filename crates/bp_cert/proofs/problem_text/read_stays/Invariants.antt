@@ -1,5 +1,5 @@
 use Rattle.std.proofs.Common.{◌≡◌, length, map}
-use Rattle.bp_cert.specs.Reading.{GivesLines}
+use Rattle.bp_text.specs.Reading.{GivesLines}
 use Rattle.bp_cert.specs.Texts.{stay_line, AreStaysWithin}
 use Rattle.bp_cert.proofs.problem_text.read_stays.Given as goal
 

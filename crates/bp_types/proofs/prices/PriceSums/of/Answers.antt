@@ -1,5 +1,6 @@
 use Rattle.std.proofs.Common.{◌≡◌, ◌-◌, ◌+◌, ◌<◌, ◌∙◌, sym, arith, length, length-set}
 use Rattle.std.proofs.lemmas.List.{get_or-replicate}
+use Rattle.bp_types.specs.declared.limits.TheConstants.{MOST_NODES}
 use Rattle.bp_types.specs.Optimum.{price_from}
 use Rattle.bp_types.proofs.Suffixes.{price_from-past}
 use Rattle.bp_types.proofs.PriceLemmas.{one_more_sum, one_more_made}
@@ -10,7 +11,7 @@ loop-gone-init c = record {
   size = omega arith;
   small = omega arith;
   sum = sym (price_from-past c.args.prices.now (length c.args.prices.now - 0) (omega arith));
-  made = λ n past within. let in_range : n < 401 = omega arith in get_or-replicate 401 n 0 0 in_range ∙ sym (price_from-past c.args.prices.now n (omega arith));
+  made = λ n past within. let in_range : n < MOST_NODES = omega arith in get_or-replicate MOST_NODES n 0 0 in_range ∙ sym (price_from-past c.args.prices.now n (omega arith));
 }
 
 pub loop-gone-preserved : goal.loop-gone-preserved

@@ -1,0 +1,183 @@
+#!/usr/bin/env python3
+"""Tries each exit status that a command can give on the program that ships, with the bytes that it writes.
+
+The proofs speak of `run`, and `main` hands its answer to the system: that the system gets it is seen here. Each command
+has its rows below. Wants the kit's `rt` where the program is not built yet, and Python's standard library alone.
+"""
+import os
+import resource
+import subprocess
+import tempfile
+from pathlib import Path
+
+from tally import EXAMPLE, Tally, built_program
+
+PROBLEM = (EXAMPLE / "problem").read_bytes()
+CERTIFICATE = (EXAMPLE / "certificate").read_bytes()
+
+USAGE = b"""usage:
+bidprice check PROBLEM CERTIFICATE
+bidprice solve PROBLEM
+bidprice group PROBLEM FROM TO ROOMS
+bidprice judge PROBLEM JOURNAL
+bidprice desk HOTEL STAYS FORECAST BOOKINGS SCRIPT [--workers W]
+bidprice replay HOTEL STAYS FORECAST BOOKINGS JOURNAL
+bidprice report HOTEL STAYS FORECAST BOOKINGS JOURNAL
+bidprice demo SEED NIGHTS ROOMS STAYS
+bidprice scenarios PROBLEM CHANGES
+bidprice sheet PROBLEM
+bidprice portfolio LIST [--workers W]
+"""
+
+
+def claim(value, sell, prices):
+    """The text of a certificate."""
+    numbers = lambda word, each: " ".join([word, *map(str, each)])
+    return f"certificate 1\nvalue {value}\n{numbers('sell', sell)}\n{numbers('prices', prices)}\nend\n".encode()
+
+
+FILES = {
+    "problem": PROBLEM,
+    "certificate": CERTIFICATE,
+    "one-stay-less": claim(250, [0, 1, 1], [0, 100, 40]),
+    "dear": claim(250, [0, 1, 1, 1], [0, 1_000_000_001, 40]),
+    "above-forecast": claim(250, [0, 2, 1, 1], [0, 100, 40]),
+    "overfull": claim(250, [1, 1, 0, 1], [0, 100, 40]),
+    "gap": claim(250, [0, 1, 1, 0], [0, 100, 40]),
+    "misvalued": claim(251, [0, 1, 1, 1], [0, 100, 40]),
+    "zero-in-front": PROBLEM.replace(b"nights 3", b"nights 03"),
+    "many-nights": PROBLEM.replace(b"nights 3", b"nights 401"),
+    "cut": PROBLEM[:-1],
+    "more": PROBLEM + b" ",
+    "cut-certificate": CERTIFICATE[:-5],
+    "long": b"p" * (2**24 + 1),
+    "greatest": b"p" * 2**24,
+}
+
+BOTH = ["check", "problem", "certificate"]
+
+# A line of words, its status, and the whole text that it writes.
+LINES = [
+    (BOTH, 0, b"optimal 250\n"),
+    (["check", "problem", "one-stay-less"], 1, b"wronglength\n"),
+    (["check", "problem", "dear"], 1, b"pricetoogreat 1\n"),
+    (["check", "problem", "above-forecast"], 1, b"aboveforecast 1\n"),
+    (["check", "problem", "overfull"], 1, b"overfull 1 2\n"),
+    (["check", "problem", "gap"], 1, b"gap 210 250\n"),
+    (["check", "problem", "misvalued"], 1, b"misvalued 250\n"),
+    ([], 2, USAGE),
+    (["help"], 2, USAGE),
+    (["check", "problem"], 2, USAGE),
+    (["check", "problem", "-certificate"], 2, USAGE),
+    (["solve"], 2, USAGE),
+    (["group", "problem", "0", "2", "0"], 2, USAGE),
+    (["check", "zero-in-front", "certificate"], 3, b"refused 1 badline 2\n"),
+    (["check", "problem", "cut-certificate"], 3, b"refused 2 tooshort\n"),
+    (["solve", "many-nights"], 3, b"refused 1 limit 2\n"),
+    (["solve", "cut"], 3, b"refused 1 tooshort\n"),
+    (["solve", "more"], 3, b"refused 1 trailing 10\n"),
+    (["solve", "long"], 3, b"refused 1 toolong\n"),
+    (["group", "problem", "2", "2", "1"], 3, b"refused span\n"),
+    (["group", "problem", "0", "4", "1"], 3, b"refused span\n"),
+    (["group", "problem", "0", "3", "2"], 3, b"noroom 1\n"),
+    (["group", "long", "0", "2", "1"], 3, b"refused 1 toolong\n"),
+    (["check", "absent", "certificate"], 4, b"fault 1\n"),
+    (["check", "problem", "absent"], 4, b"fault 2\n"),
+    (["check", "folder", "certificate"], 4, b"fault 1\n"),
+    (["solve", "absent"], 4, b"fault 1\n"),
+    (["group", "absent", "0", "2", "1"], 4, b"fault 1\n"),
+]
+
+# A line whose answer has parts that another solver may choose otherwise: how many of each stay are sold.
+CHOSEN = [
+    (["solve", "problem"], [b"certificate 1", b"value 250", b"prices 0 100 40", b"end"]),
+    (
+        ["group", "problem", "0", "2", "1"],
+        [b"displacement 110", b"certificate 1", b"value 250", b"prices 0 100 40", b"end"]
+        + [b"certificate 1", b"value 140", b"prices 0 110 40", b"end"],
+    ),
+]
+
+# One line of words for each command, and one that no command has: each writes something.
+WRITING = [BOTH, ["solve", "problem"], ["group", "problem", "0", "2", "1"], ["help"]]
+
+
+def run(program, folder, words, **how):
+    how.setdefault("stdout", subprocess.PIPE)
+    return subprocess.run([program, *words], cwd=folder, stderr=subprocess.PIPE, timeout=60, **how)
+
+
+def named(words):
+    return " ".join(words) or "no words"
+
+
+def try_lines(tally, program, folder):
+    for words, status, text in LINES:
+        done = run(program, folder, words)
+        tally.expect(named(words), (done.returncode, done.stdout, done.stderr), (status, text, b""))
+    for words, lines in CHOSEN:
+        done = run(program, folder, words)
+        kept = [line for line in done.stdout.split(b"\n")[:-1] if not line.startswith(b"sell")]
+        tally.expect(named(words), (done.returncode, kept, done.stderr), (0, lines, b""))
+
+
+def try_words_that_are_no_text(tally, program, folder):
+    done = run(program, folder, ["check", b"\xff", "certificate"])
+    tally.expect("words that are no text", (done.returncode, done.stdout), (2, b""))
+
+
+def try_output_that_fails(tally, program, folder):
+    for words in WRITING:
+        if not Path("/dev/full").is_char_device():
+            tally.skip(f"{named(words)} into a full device", "this machine has none")
+        else:
+            with open("/dev/full", "wb") as full:
+                tally.expect(f"{named(words)} into a full device", run(program, folder, words, stdout=full).returncode, 5)
+        reader, writer = os.pipe()
+        os.close(reader)
+        done = run(program, folder, words, stdout=writer)
+        os.close(writer)
+        tally.expect(f"{named(words)} into a closed pipe", done.returncode, 5)
+
+
+def with_address_space(bytes_at_most):
+    return lambda: resource.setrlimit(resource.RLIMIT_AS, (bytes_at_most, bytes_at_most))
+
+
+def least_space_to_start(program, folder):
+    """The least address space, in steps of 256 KiB, in which the program ends by itself with what it has to say."""
+    for space in range(2**20, 2**30, 2**18):
+        done = run(program, folder, ["help"], preexec_fn=with_address_space(space))
+        if (done.returncode, done.stdout) == (2, USAGE):
+            return space
+    return None
+
+
+def try_want_of_memory(tally, program, folder):
+    space = least_space_to_start(program, folder)
+    if space is None:
+        tally.skip("want of memory", "no limit on the address space lets the program start here")
+        return
+    for words in [["check", "greatest", "certificate"], ["solve", "greatest"], ["group", "greatest", "0", "2", "1"]]:
+        ample = run(program, folder, words)
+        tally.expect(f"{named(words)} with ample memory", (ample.returncode, ample.stdout), (3, b"refused 1 tooshort\n"))
+        done = run(program, folder, words, preexec_fn=with_address_space(space + 2**22))
+        tally.expect(f"{named(words)} without memory", (done.returncode, done.stdout), (6, b""))
+
+
+def main():
+    program = built_program()
+    tally = Tally()
+    with tempfile.TemporaryDirectory() as folder:
+        for name, data in FILES.items():
+            (Path(folder) / name).write_bytes(data)
+        (Path(folder) / "folder").mkdir()
+        try_lines(tally, program, folder)
+        try_words_that_are_no_text(tally, program, folder)
+        try_output_that_fails(tally, program, folder)
+        try_want_of_memory(tally, program, folder)
+    tally.end()
+
+
+if __name__ == "__main__":
+    main()

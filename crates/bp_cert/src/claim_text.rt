@@ -1,0 +1,72 @@
+//! The three lines of a certificate that say what it claims: `value`, `sell` and `prices`.
+ghost use Rattle.std.specs.Prelude.{◌≡◌, ◌+◌, ◌≤◌, ◌++◌, IsErrOf, OnOk};
+ghost use Rattle.bp_edges.specs.Counts.{Rose};
+ghost use Rattle.bp_edges.specs.Writing.{Writes};
+ghost use Rattle.bp_text.specs.Lines.{text_of};
+ghost use Rattle.bp_text.specs.Reading.{IsReading};
+ghost use Rattle.bp_cert.specs.Texts.{claim_lines, IsSpeakable};
+
+use bp_edges::{Sink, WriteError};
+use bp_text::{
+    Bounds, Lines, TextError, open_line, push_line, push_wide_line, wide_number_line, write_text,
+};
+use bp_types::Certificate;
+use std::alloc::{AllocError, Global};
+
+const MOST_VALUE: u128 = 1_000_000_000_000_000_000_000_000_000_000;
+
+const SALES: Bounds = Bounds {
+    most: 4_000,
+    greatest: u64::MAX,
+};
+
+const PRICES: Bounds = Bounds {
+    most: 400,
+    greatest: u64::MAX,
+};
+
+/// Reads the three lines of a certificate that say what it claims: `value`, `sell` and `prices`.
+///
+/// After a refusal the lines before the refused one were given, and the refused one where it has its end.
+pub fn certificate_lines(alloc: Global, lines: &mut Lines<'_>) -> Result<Certificate, TextError>
+    ensures read { IsReading claim_lines IsSpeakable lines.old lines.new result }
+    ensures few { lines.new.given ≤ lines.old.given + 3 }
+{
+    let value = wide_number_line(lines, b"value", MOST_VALUE)?;
+    let mut sell = Vec::new(alloc);
+    open_line(lines, b"sell", SALES, &mut sell)?;
+    let mut prices = Vec::new(alloc);
+    open_line(lines, b"prices", PRICES, &mut prices)?;
+    Ok(Certificate {
+        value,
+        sell,
+        prices,
+    })
+}
+
+/// Writes the three lines of a certificate that say what it claims: `value`, `sell` and `prices`.
+pub fn write_certificate_lines<K: Sink>(
+    alloc: Global,
+    certificate: &Certificate,
+    out: &mut K,
+) -> Result<(), WriteError>
+    ensures writes { Writes (K.written out.old) (K.written out.new) (text_of (claim_lines certificate.now)) result }
+    ensures failed { IsErrOf result WriteError.Failed → Rose (K.faults out.old) (K.faults out.new) }
+    ensures unfailing { K.steady out.old → ¬ IsErrOf result WriteError.Failed }
+    ensures steady { K.steady out.old → K.steady out.new }
+    ensures faults { K.faults out.old ≤ K.faults out.new }
+{
+    let mut text = Vec::new(alloc);
+    push_claim(&mut text, certificate)?;
+    write_text(alloc, &text, out)
+}
+
+/// Puts these three lines at the end of a text.
+pub fn push_claim(text: &mut Vec<u8>, certificate: &Certificate) -> Result<(), AllocError>
+    ensures { OnOk result (text.new.items ≡ text.old.items ++ text_of (claim_lines certificate.now)) }
+{
+    push_wide_line(text, b"value", certificate.value)?;
+    push_line(text, b"sell", &certificate.sell)?;
+    push_line(text, b"prices", &certificate.prices)?;
+    Ok(())
+}

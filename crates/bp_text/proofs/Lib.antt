@@ -1,0 +1,9 @@
+pub mod NumberLemmas
+pub mod LineLemmas
+pub mod FormLemmas
+pub mod NextLemmas
+pub mod EndLemmas
+pub mod StageLemmas
+pub mod WholeLemmas
+pub mod SpellingLemmas
+pub mod OneWayLemmas

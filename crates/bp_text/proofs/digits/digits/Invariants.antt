@@ -1,0 +1,11 @@
+use Rattle.std.proofs.Common.{ℕ, ◌-◌, ◌<◌, ◌≤◌, map, take, slice_index}
+use Rattle.std.specs.Int.Digits.{number_from_digits}
+use Rattle.bp_text.proofs.NumberLemmas.{IsSoFar}
+use Rattle.bp_text.proofs.digits.digits.Given as goal
+
+-- the bytes before this one are digits, and the number that they write is known up to the greatest
+abbrev pub invariant-loop-byte : goal.invariant-loop-byte
+invariant-loop-byte l = record {
+  digits : (k : ℕ) → k < l.byte-index → (48 ≤ slice_index l.word k) × (slice_index l.word k ≤ 57);
+  number : IsSoFar l.greatest l.value (number_from_digits 10 (take l.byte-index (map (λ b. b - 48) l.word)));
+}

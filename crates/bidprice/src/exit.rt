@@ -1,7 +1,6 @@
 //! The status that the program ends with.
 ghost use Rattle.std.specs.Prelude.{◌≡◌};
 ghost use Rattle.std.specs.Process.{exit_status};
-ghost use Rattle.std.specs.Logic.{∥◌∥₁};
 ghost use Rattle.bidprice.specs.Exits.{IsExit};
 
 use std::process::{ExitCode, Termination};

@@ -1,9 +1,10 @@
 ghost use Rattle.std.specs.Prelude.{◌≡◌, ◌+◌, ◌≤◌, length, All, IfOk};
-ghost use Rattle.bp_types.specs.Limits.{most_nights};
-ghost use Rattle.bp_types.specs.Optimum.{greatest_price};
+ghost use Rattle.bp_types.specs.declared.limits.TheConstants.{MOST_NIGHTS, MOST_PRICE};
+ghost use Rattle.bp_types.specs.Optimum.{price_from};
 ghost use Rattle.bp_types.specs.Prices.{SumUp};
 ghost use Rattle.bp_types.specs.Program.{price};
-ghost use Rattle.bp_board.specs.Posted.{Posted, HasPrices, IsSpanOf};
+ghost use Rattle.bp_types.specs.Spans.{IsSpanWithin};
+ghost use Rattle.bp_board.specs.Posted.{Posted, HasPrices};
 
 use bp_types::{Certificate, Memory, Span};
 use std::alloc::Global;
@@ -63,9 +64,24 @@ impl Board {
         &self.certificate
     }
 
+    /// How many nights have a price.
+    pub fn nights(&self) -> u32
+        ensures { result ≡ length self.now.certificate.prices }
+    {
+        self.certificate.prices.len() as u32
+    }
+
+    /// The sum of the prices from a night to the last, in minor units of money; 0 behind the last night.
+    pub fn sum_from(&self, night: u32) -> u64
+        requires { night ≤ length self.now.certificate.prices }
+        ensures { result ≡ price_from self.now.certificate.prices night }
+    {
+        self.sums[night as usize]
+    }
+
     /// The sum of the prices of a span's nights, in minor units of money.
     pub fn price(&self, span: Span) -> u64
-        requires { IsSpanOf self.now span }
+        requires { IsSpanWithin (length self.now.certificate.prices) span }
         ensures { result ≡ price self.now.certificate.prices span }
     {
         self.sums[span.from as usize] - self.sums[span.to as usize]
@@ -75,8 +91,8 @@ impl Board {
 /// Fills in the sums of the prices from each night to the last, from the last night on.
 fn sum_up(prices: &[u64], sums: &mut [u64])
     requires one_more { length sums.old ≡ length prices.now + 1 }
-    requires nights { length prices.now ≤ most_nights }
-    requires within_limit { All (λ x. x ≤ greatest_price) prices.now }
+    requires nights { length prices.now ≤ MOST_NIGHTS }
+    requires within_limit { All (λ x. x ≤ MOST_PRICE) prices.now }
     ensures { SumUp prices.now sums.new }
 {
     let nights = prices.len();

@@ -25,6 +25,12 @@ fn the_price_of_each_span(rt: HostRuntime) -> Result<(), Fail> {
             assert_eq!(rt; board.price(Span { from, to }), sum);
         }
     }
+    for (night, sum) in [(0, 140), (1, 140), (2, 40), (3, 0)] {
+        if night <= board.nights() {
+            assert_eq!(rt; board.sum_from(night), sum);
+        }
+    }
+    assert_eq!(rt; board.nights(), 3);
     assert_eq!(rt; board.position(), 4);
     assert_eq!(rt; board.certificate().value, 250);
     crosses_threads(&board);

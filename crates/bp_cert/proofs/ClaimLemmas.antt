@@ -1,8 +1,10 @@
 -- The text of a certificate, line by line.
-use Rattle.std.proofs.Common.{◌≡◌, ℕ, zero, suc, ◌<◌, ◌≤◌, ◌^◌, refl, ap, sym, subst, ◌∙◌, arith, List, [], ◌∷◌, ◌++◌, length, All, append_assoc, length-append}
+use Rattle.std.proofs.Common.{◌≡◌, ℕ, zero, suc, ◌<◌, ◌≤◌, refl, ap, sym, subst, ◌∙◌, arith, List, [], ◌∷◌, ◌++◌, length, All, append_assoc, length-append}
 use Rattle.std.specs.Prelude.{codes, Err}
 use Rattle.std.proofs.lemmas.List.{append-nil}
 use Rattle.bp_types.specs.Claim.{Claim}
+use Rattle.bp_types.specs.declared.limits.TheConstants.{MOST_NIGHTS, MOST_STAYS}
+use Rattle.bp_cert.specs.declared.claim_text.TheConstants.{MOST_VALUE}
 use Rattle.bp_text.specs.declared.text_error.TextError.{TextError}
 use Rattle.bp_text.specs.declared.text_error.TextError.TheVariants.{BadLine, Limit, TooShort, Trailing, Memory}
 use Rattle.bp_text.specs.Lines.{Line, Given, line_of}
@@ -33,62 +35,62 @@ prices_line ns = line_of (codes "prices") ns
 nothing_within : (P : ℕ → Type 0) → All P []
 nothing_within P k d h = absurd (omega arith)
 
-pub speakable : (value : ℕ) (sell prices : List ℕ) → value ≤ 10 ^ 30 → AreWithin (record { most = 4000; greatest = 18446744073709551615 }) sell → AreWithin (record { most = 400; greatest = 18446744073709551615 }) prices →
+pub speakable : (value : ℕ) (sell prices : List ℕ) → value ≤ MOST_VALUE → AreWithin (record { most = MOST_STAYS; greatest = 18446744073709551615 }) sell → AreWithin (record { most = MOST_NIGHTS; greatest = 18446744073709551615 }) prices →
     IsSpeakable (record { value = value; sell = sell; prices = prices })
 speakable value sell prices small sales nights = record { value = small; stays = sales.0; nights = nights.0; sell = sales.1; prices = nights.1 }
 
 none_within : (most : ℕ) → AreWithin (record { most = most; greatest = 18446744073709551615 }) []
 none_within most = (omega arith, nothing_within _)
 
-pub stage_value : IsStage claim_lines IsSpeakable [] (codes "value") (λ ns. length ns ≡ 1) (λ ns. All (λ n. n ≤ 10 ^ 30) ns)
+pub stage_value : IsStage claim_lines IsSpeakable [] (codes "value") (λ ns. length ns ≡ 1) (λ ns. All (λ n. n ≤ MOST_VALUE) ns)
 stage_value =
     let c : Claim = record { value = 0; sell = []; prices = [] } in
     record {
       no_ends = claim_no_ends;
-      begins = (c, value_line 0, sell_line [] ∷ prices_line [] ∷ [], speakable 0 [] [] (omega arith) (none_within 4000) (none_within 400), refl);
+      begins = (c, value_line 0, sell_line [] ∷ prices_line [] ∷ [], speakable 0 [] [] (omega arith) (none_within MOST_STAYS) (none_within MOST_NIGHTS), refl);
       form = λ v line more e. (v.value ∷ [], refl, sym (heads (value_line v.value) line (sell_line v.sell ∷ prices_line v.prices ∷ []) more e));
       some = λ ns one.
           let n = only_number ns one in
           (record { value = n.0; sell = []; prices = [] }, sell_line [] ∷ prices_line [] ∷ [], ap (λ l. l ∷ sell_line [] ∷ prices_line [] ∷ []) (ap (line_of (codes "value")) (sym n.1)));
       fine = λ v ns more within one e.
           let is = line_injective (codes "value") (v.value ∷ []) ns (heads (value_line v.value) (line_of (codes "value") ns) (sell_line v.sell ∷ prices_line v.prices ∷ []) more e) in
-          let P : List ℕ → Type 0 = λ ns. All (λ n. n ≤ 10 ^ 30) ns in
+          let P : List ℕ → Type 0 = λ ns. All (λ n. n ≤ MOST_VALUE) ns in
           subst P is (one_small v.value within.value);
     }
   where
-    one_small : (n : ℕ) → n ≤ 10 ^ 30 → All (λ n. n ≤ 10 ^ 30) (n ∷ [])
+    one_small : (n : ℕ) → n ≤ MOST_VALUE → All (λ n. n ≤ MOST_VALUE) (n ∷ [])
     one_small n small zero d h = small
     one_small n small (suc k) d h = absurd (omega arith)
 
-pub stage_sell : (value : ℕ) → value ≤ 10 ^ 30 → IsStage claim_lines IsSpeakable (value_line value ∷ []) (codes "sell") (λ _. Unit {0}) (AreWithin (record { most = 4000; greatest = 18446744073709551615 }))
+pub stage_sell : (value : ℕ) → value ≤ MOST_VALUE → IsStage claim_lines IsSpeakable (value_line value ∷ []) (codes "sell") (λ _. Unit {0}) (AreWithin (record { most = MOST_STAYS; greatest = 18446744073709551615 }))
 stage_sell value small =
     let c : Claim = record { value = value; sell = []; prices = [] } in
     let behind : (v : Claim) (rest : List Line) → claim_lines v ≡ value_line value ∷ rest → sell_line v.sell ∷ prices_line v.prices ∷ [] ≡ rest = λ v rest e. tails (value_line v.value) (value_line value) (sell_line v.sell ∷ prices_line v.prices ∷ []) rest e in
     record {
       no_ends = claim_no_ends;
-      begins = (c, sell_line [], prices_line [] ∷ [], speakable value [] [] small (none_within 4000) (none_within 400), refl);
+      begins = (c, sell_line [], prices_line [] ∷ [], speakable value [] [] small (none_within MOST_STAYS) (none_within MOST_NIGHTS), refl);
       form = λ v line more e. (v.sell, tt, sym (heads (sell_line v.sell) line (prices_line v.prices ∷ []) more (behind v (line ∷ more) e)));
       some = λ ns any. (record { value = value; sell = ns; prices = [] }, prices_line [] ∷ [], refl);
       fine = λ v ns more within any e.
           let is = line_injective (codes "sell") v.sell ns (heads (sell_line v.sell) (sell_line ns) (prices_line v.prices ∷ []) more (behind v (sell_line ns ∷ more) e)) in
-          let P : List ℕ → Type 0 = λ ns. AreWithin (record { most = 4000; greatest = 18446744073709551615 }) ns in
+          let P : List ℕ → Type 0 = λ ns. AreWithin (record { most = MOST_STAYS; greatest = 18446744073709551615 }) ns in
           subst P is (within.stays, within.sell);
     }
 
-pub stage_prices : (value : ℕ) (sell : List ℕ) → value ≤ 10 ^ 30 → AreWithin (record { most = 4000; greatest = 18446744073709551615 }) sell →
-    IsStage claim_lines IsSpeakable (value_line value ∷ sell_line sell ∷ []) (codes "prices") (λ _. Unit {0}) (AreWithin (record { most = 400; greatest = 18446744073709551615 }))
+pub stage_prices : (value : ℕ) (sell : List ℕ) → value ≤ MOST_VALUE → AreWithin (record { most = MOST_STAYS; greatest = 18446744073709551615 }) sell →
+    IsStage claim_lines IsSpeakable (value_line value ∷ sell_line sell ∷ []) (codes "prices") (λ _. Unit {0}) (AreWithin (record { most = MOST_NIGHTS; greatest = 18446744073709551615 }))
 stage_prices value sell small sales =
     let c : Claim = record { value = value; sell = sell; prices = [] } in
     let behind : (v : Claim) (rest : List Line) → claim_lines v ≡ value_line value ∷ sell_line sell ∷ rest → prices_line v.prices ∷ [] ≡ rest =
     λ v rest e. tails (sell_line v.sell) (sell_line sell) (prices_line v.prices ∷ []) rest (tails (value_line v.value) (value_line value) (sell_line v.sell ∷ prices_line v.prices ∷ []) (sell_line sell ∷ rest) e) in
     record {
       no_ends = claim_no_ends;
-      begins = (c, prices_line [], [], speakable value sell [] small sales (none_within 400), refl);
+      begins = (c, prices_line [], [], speakable value sell [] small sales (none_within MOST_NIGHTS), refl);
       form = λ v line more e. (v.prices, tt, sym (heads (prices_line v.prices) line [] more (behind v (line ∷ more) e)));
       some = λ ns any. (record { value = value; sell = sell; prices = ns }, [], refl);
       fine = λ v ns more within any e.
           let is = line_injective (codes "prices") v.prices ns (heads (prices_line v.prices) (prices_line ns) [] more (behind v (prices_line ns ∷ more) e)) in
-          let P : List ℕ → Type 0 = λ ns. AreWithin (record { most = 400; greatest = 18446744073709551615 }) ns in
+          let P : List ℕ → Type 0 = λ ns. AreWithin (record { most = MOST_NIGHTS; greatest = 18446744073709551615 }) ns in
           subst P is (within.nights, within.prices);
     }
 
@@ -160,7 +162,7 @@ stage_first =
     let c : Claim = record { value = 0; sell = []; prices = [] } in
     record {
       no_ends = certificate_no_ends;
-      begins = (c, first_line, claim_lines c ++ last_line ∷ [], speakable 0 [] [] (omega arith) (none_within 4000) (none_within 400), refl);
+      begins = (c, first_line, claim_lines c ++ last_line ∷ [], speakable 0 [] [] (omega arith) (none_within MOST_STAYS) (none_within MOST_NIGHTS), refl);
       form = λ v line more e. ([], refl, sym (heads first_line line (claim_lines v ++ last_line ∷ []) more e) ∙ sym (word_alone first_line));
       some = λ ns none. (c, claim_lines c ++ last_line ∷ [], ap (λ l. l ∷ (claim_lines c ++ last_line ∷ [])) (sym (ap (line_of first_line) (no_numbers ns none) ∙ word_alone first_line)));
       fine = λ v ns more within none e. tt;

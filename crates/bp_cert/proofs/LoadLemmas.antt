@@ -2,6 +2,7 @@
 use Rattle.std.proofs.Common.{◌≡◌, ℕ, zero, suc, ◌+◌, ◌*◌, ◌^◌, ◌<◌, ◌≤◌, ap, ◌∙◌, sym, arith, Bool, true, false, cond, ◌==◌, List, length, slice_index, set, get_or-set_same, get_or-set_other, inl, inr}
 use Rattle.std.proofs.lemmas.Bool.{cases_eq, cond-true, cond-false, eq-eqb, ne_eqb}
 use Rattle.std.proofs.lemmas.Bool.Decides.{nat_tests}
+use Rattle.bp_types.specs.declared.limits.TheConstants.{MOST_FORECAST, MOST_NODES}
 use Rattle.bp_types.specs.declared.stay.Stay.{Stay}
 use Rattle.bp_types.specs.Sums.{sum_below}
 use Rattle.bp_types.specs.Program.{Program, stay_at, no_stay, covers, load}
@@ -45,7 +46,7 @@ first_load p sell limits =
 -- what is sold of some of the first m stays
 pub sold_is_small : (p : Program) (sell : List ℕ) (test : ℕ → Bool) (m : ℕ) → IsWithinLimits p → m ≤ length p.stays →
     NoneAbove (λ j. (stay_at p j).forecast) (slice_index sell) (length p.stays) →
-    sum_below (λ j. cond (test j) (slice_index sell j) 0) m ≤ 1000000 * m
+    sum_below (λ j. cond (test j) (slice_index sell j) 0) m ≤ MOST_FORECAST * m
 sold_is_small p sell test zero limits short within = omega arith
 sold_is_small p sell test (suc m) limits short within =
     let sold = within m (omega arith) in
@@ -57,9 +58,9 @@ sold_is_small p sell test (suc m) limits short within =
     at_most false y = omega arith
 
 -- a list of counts after y more at place k
-pub counts_more : (list : List ℕ) (count : ℕ → ℕ) (k y : ℕ) → length list ≡ 401 → k < 401 →
-    ((n : ℕ) → n < 401 → slice_index list n ≡ count n) →
-    (n : ℕ) → n < 401 → slice_index (set list k (slice_index list k + y)) n ≡ count n + cond (k == n) y 0
+pub counts_more : (list : List ℕ) (count : ℕ → ℕ) (k y : ℕ) → length list ≡ MOST_NODES → k < MOST_NODES →
+    ((n : ℕ) → n < MOST_NODES → slice_index list n ≡ count n) →
+    (n : ℕ) → n < MOST_NODES → slice_index (set list k (slice_index list k + y)) n ≡ count n + cond (k == n) y 0
 counts_more list count k y each in_range so_far n h = elim (cases_eq k n) [
   | inl here ↦
       let at : slice_index (set list k (slice_index list k + y)) k ≡ slice_index list k + y = get_or-set_same list k _ 0 (omega arith) in
@@ -96,7 +97,7 @@ arrivals_fit p sell n load_before limits within moves =
     omega (arith, there, out, stays, moves)
 
 -- the places before the next one are made
-pub loads_more : (list : List ℕ) (of : ℕ → ℕ) (n value : ℕ) → length list ≡ 401 → n < 401 → value ≡ of n →
+pub loads_more : (list : List ℕ) (of : ℕ → ℕ) (n value : ℕ) → length list ≡ MOST_NODES → n < MOST_NODES → value ≡ of n →
     ((k : ℕ) → k < n → slice_index list k ≡ of k) → (k : ℕ) → k < n + 1 → slice_index (set list n value) k ≡ of k
 loads_more list of n value each in_range now made k h = elim (cases_eq k n) [
   | inl here ↦

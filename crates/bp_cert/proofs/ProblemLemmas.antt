@@ -5,7 +5,7 @@ use Rattle.std.proofs.lemmas.List.{append-nil, length-replicate, get_or-replicat
 use Rattle.std.proofs.lemmas.List.Elements.{All-append}
 use Rattle.bp_types.specs.declared.stay.Stay.{Stay}
 use Rattle.bp_types.specs.Program.{Program, no_stay}
-use Rattle.bp_types.specs.Limits.{most_nights}
+use Rattle.bp_types.specs.declared.limits.TheConstants.{MOST_NIGHTS, MOST_STAYS, MOST_ROOMS}
 use Rattle.bp_text.specs.Lines.{Line, Given, GivesLine, line_of}
 use Rattle.bp_text.specs.Forms.{AreWithin}
 use Rattle.bp_text.specs.Reading.{GivesLines, Spells}
@@ -111,7 +111,7 @@ word_alone word = append-nil word
 bare : (rooms : List ℕ) → IsHead rooms 0 → IsProblem (record { rooms = rooms; stays = [] })
 bare rooms head = problem_within rooms [] head (λ k d h. absurd (omega arith))
 
-zero_rooms : (n : ℕ) → 1 ≤ n → n ≤ most_nights → IsHead (replicate n 0) 0
+zero_rooms : (n : ℕ) → 1 ≤ n → n ≤ MOST_NIGHTS → IsHead (replicate n 0) 0
 zero_rooms n some few =
     let long = length-replicate {A = ℕ} n 0 in
     record {
@@ -132,7 +132,7 @@ stage_first =
       fine = λ v ns more within none e. tt;
     }
 
-pub stage_nights : IsStage problem_lines IsProblem (first_line ∷ []) (codes "nights") (λ ns. length ns ≡ 1) (λ ns. All (λ n. (1 ≤ n) × (n ≤ 400)) ns)
+pub stage_nights : IsStage problem_lines IsProblem (first_line ∷ []) (codes "nights") (λ ns. length ns ≡ 1) (λ ns. All (λ n. (1 ≤ n) × (n ≤ MOST_NIGHTS)) ns)
 stage_nights =
     let v : Program = record { rooms = replicate 1 0; stays = [] } in
     record {
@@ -146,11 +146,11 @@ stage_nights =
           (w, from_rooms w, ap (λ l. first_line ∷ l ∷ from_rooms w) is);
       fine = λ v ns more within one e.
           let is = line_injective (codes "nights") (length v.rooms ∷ []) ns (heads (nights_line (length v.rooms)) (line_of (codes "nights") ns) (from_rooms v) more (tails first_line first_line (from_nights v) (line_of (codes "nights") ns ∷ more) e)) in
-          let P : List ℕ → Type 0 = λ ns. All (λ n. (1 ≤ n) × (n ≤ 400)) ns in
+          let P : List ℕ → Type 0 = λ ns. All (λ n. (1 ≤ n) × (n ≤ MOST_NIGHTS)) ns in
           subst P is (one_fine (length v.rooms) (within.limits.some_night, within.limits.nights));
     }
   where
-    one_fine : (n : ℕ) → (1 ≤ n) × (n ≤ 400) → All (λ n. (1 ≤ n) × (n ≤ 400)) (n ∷ [])
+    one_fine : (n : ℕ) → (1 ≤ n) × (n ≤ MOST_NIGHTS) → All (λ n. (1 ≤ n) × (n ≤ MOST_NIGHTS)) (n ∷ [])
     one_fine n fine zero d h = fine
     one_fine n fine (suc k) d h = absurd (omega arith)
 
@@ -160,7 +160,7 @@ rooms_known v n rest e =
     let behind = tails first_line first_line (from_nights v) (nights_line n ∷ rest) e in
     (one_number (codes "nights") (length v.rooms) n (heads (nights_line (length v.rooms)) (nights_line n) (from_rooms v) rest behind), tails (nights_line (length v.rooms)) (nights_line n) (from_rooms v) rest behind)
 
-pub stage_rooms : (n : ℕ) → 1 ≤ n → n ≤ 400 → IsStage problem_lines IsProblem (first_line ∷ nights_line n ∷ []) (codes "rooms") (λ ns. length ns ≡ n) (AreWithin (record { most = n; greatest = 10000 }))
+pub stage_rooms : (n : ℕ) → 1 ≤ n → n ≤ MOST_NIGHTS → IsStage problem_lines IsProblem (first_line ∷ nights_line n ∷ []) (codes "rooms") (λ ns. length ns ≡ n) (AreWithin (record { most = n; greatest = MOST_ROOMS }))
 stage_rooms n positive few =
     let v : Program = record { rooms = replicate n 0; stays = [] } in
     record {
@@ -171,7 +171,7 @@ stage_rooms n positive few =
       fine = λ v ns more within each e.
           let known = rooms_known v n (line_of (codes "rooms") ns ∷ more) e in
           let is = line_injective (codes "rooms") v.rooms ns (heads (rooms_line v.rooms) (rooms_line ns) (from_stays v) more known.1) in
-          let P : List ℕ → Type 0 = λ ns. AreWithin (record { most = n; greatest = 10000 }) ns in
+          let P : List ℕ → Type 0 = λ ns. AreWithin (record { most = n; greatest = MOST_ROOMS }) ns in
           subst P is (omega (arith, known.0), within.rooms);
     }
 
@@ -181,7 +181,7 @@ stays_known v n rooms rest e =
     (line_injective (codes "rooms") v.rooms rooms (heads (rooms_line v.rooms) (rooms_line rooms) (from_stays v) rest known.1), tails (rooms_line v.rooms) (rooms_line rooms) (from_stays v) rest known.1)
 
 pub stage_count : (n : ℕ) (rooms : List ℕ) → IsHead rooms 0 → length rooms ≡ n →
-    IsStage problem_lines IsProblem (first_line ∷ nights_line n ∷ rooms_line rooms ∷ []) (codes "stays") (λ ns. length ns ≡ 1) (λ ns. All (λ k. (0 ≤ k) × (k ≤ 4000)) ns)
+    IsStage problem_lines IsProblem (first_line ∷ nights_line n ∷ rooms_line rooms ∷ []) (codes "stays") (λ ns. length ns ≡ 1) (λ ns. All (λ k. (0 ≤ k) × (k ≤ MOST_STAYS)) ns)
 stage_count n rooms head each =
     let v : Program = record { rooms = rooms; stays = [] } in
     record {
@@ -196,11 +196,11 @@ stage_count n rooms head each =
       fine = λ v ns more within one e.
           let known = stays_known v n rooms (line_of (codes "stays") ns ∷ more) e in
           let is = line_injective (codes "stays") (length v.stays ∷ []) ns (heads (count_line (length v.stays)) (line_of (codes "stays") ns) (stay_lines v.stays) more known.1) in
-          let P : List ℕ → Type 0 = λ ns. All (λ k. (0 ≤ k) × (k ≤ 4000)) ns in
+          let P : List ℕ → Type 0 = λ ns. All (λ k. (0 ≤ k) × (k ≤ MOST_STAYS)) ns in
           subst P is (one_fine (length v.stays) (omega arith, within.limits.stays));
     }
   where
-    one_fine : (k : ℕ) → (0 ≤ k) × (k ≤ 4000) → All (λ k. (0 ≤ k) × (k ≤ 4000)) (k ∷ [])
+    one_fine : (k : ℕ) → (0 ≤ k) × (k ≤ MOST_STAYS) → All (λ k. (0 ≤ k) × (k ≤ MOST_STAYS)) (k ∷ [])
     one_fine k fine zero d h = fine
     one_fine k fine (suc i) d h = absurd (omega arith)
 

@@ -6,3 +6,4 @@ pub use Rattle.bp_text.specs.Lines
 pub use Rattle.bp_text.specs.Forms
 pub use Rattle.bp_text.specs.Reading
 pub use Rattle.bp_text.specs.Laws
+pub use Rattle.bp_text.specs.Drafts

@@ -1,5 +1,6 @@
 -- The load of a night, by who arrives and who departs.
 use Rattle.std.specs.Prelude.{◌≡◌, ℕ, ◌<◌, ◌==◌, if◌then◌else◌, List, length, slice_index}
+use Rattle.bp_types.specs.declared.limits.TheConstants.{MOST_NODES}
 use Rattle.bp_types.specs.Sums.{sum_below}
 use Rattle.bp_types.specs.Program.{Program, stay_at, load}
 
@@ -19,9 +20,9 @@ arriving p sell n = arriving_below p sell (length p.stays) n
 abbrev pub departing : Program → List ℕ → ℕ → ℕ
 departing p sell n = departing_below p sell (length p.stays) n
 
--- the list has the count of each of its 401 places
+-- the list has the count of each of its places
 abbrev pub Counts : (ℕ → ℕ) → List ℕ → Type 0
-Counts count list = (n : ℕ) → n < 401 → slice_index list n ≡ count n
+Counts count list = (n : ℕ) → n < MOST_NODES → slice_index list n ≡ count n
 
 -- the list has the load of each night
 abbrev pub AreLoads : Program → List ℕ → List ℕ → Type 0

@@ -1,10 +1,11 @@
 -- The texts of problems and certificates, line by line.
-use Rattle.std.specs.Prelude.{ℕ, ◌^◌, ◌<◌, ◌≤◌, List, [], ◌∷◌, ◌++◌, length, map, slice_index, All, codes}
+use Rattle.std.specs.Prelude.{ℕ, ◌<◌, ◌≤◌, List, [], ◌∷◌, ◌++◌, length, map, slice_index, All, codes}
 use Rattle.bp_types.specs.declared.stay.Stay.{Stay}
 use Rattle.bp_types.specs.Program.{Program}
-use Rattle.bp_types.specs.Limits.{IsWithinLimits, most_nights, most_stays, most_rate, most_forecast}
-use Rattle.bp_types.specs.House.{most_house_rooms}
+use Rattle.bp_types.specs.Limits.{IsWithinLimits}
+use Rattle.bp_types.specs.declared.limits.TheConstants.{MOST_NIGHTS, MOST_STAYS, MOST_ROOMS, MOST_RATE, MOST_FORECAST}
 use Rattle.bp_types.specs.Claim.{Claim}
+use Rattle.bp_cert.specs.declared.claim_text.TheConstants.{MOST_VALUE}
 use Rattle.bp_text.specs.Lines.{Line, line_of, text_of}
 
 -- the numbers of a stay: its first night, the night after its last, its rate and its forecast
@@ -31,7 +32,7 @@ problem_lines p = head_lines p.rooms (length p.stays) ++ stay_lines p.stays
 -- a problem keeps to the limits of an instance, and has no more rooms on a night than a house
 pub record IsProblem (p : Program) : Type 0 where
   pub limits : IsWithinLimits p
-  pub rooms : All (λ r. r ≤ most_house_rooms) p.rooms
+  pub rooms : All (λ r. r ≤ MOST_ROOMS) p.rooms
 
 -- the lines of a certificate between its first and its last
 abbrev pub claim_lines : Claim → List Line
@@ -48,9 +49,9 @@ IsWord n = n ≤ 18446744073709551615
 
 -- what a certificate's text can say
 pub record IsSpeakable (c : Claim) : Type 0 where
-  pub value : c.value ≤ 10 ^ 30
-  pub stays : length c.sell ≤ 4000
-  pub nights : length c.prices ≤ 400
+  pub value : c.value ≤ MOST_VALUE
+  pub stays : length c.sell ≤ MOST_STAYS
+  pub nights : length c.prices ≤ MOST_NIGHTS
   pub sell : All IsWord c.sell
   pub prices : All IsWord c.prices
 
@@ -65,8 +66,8 @@ pub record IsStayWithin (nights : ℕ) (numbers : List ℕ) : Type 0 where
   pub some : slice_index numbers 0 < slice_index numbers 1
   pub inside : slice_index numbers 1 ≤ nights
   pub rate : 1 ≤ slice_index numbers 2
-  pub small_rate : slice_index numbers 2 ≤ most_rate
-  pub forecast : slice_index numbers 3 ≤ most_forecast
+  pub small_rate : slice_index numbers 2 ≤ MOST_RATE
+  pub forecast : slice_index numbers 3 ≤ MOST_FORECAST
 
 -- stays within so many nights and within the limits
 abbrev pub AreStaysWithin : ℕ → List Stay → Type 0
@@ -75,6 +76,6 @@ AreStaysWithin nights stays = All (λ s. IsStayWithin nights (stay_numbers s)) s
 -- what is known of a problem before its stays
 pub record IsHead (rooms : List ℕ) (stays : ℕ) : Type 0 where
   pub some_night : 1 ≤ length rooms
-  pub nights : length rooms ≤ most_nights
-  pub few_rooms : All (λ r. r ≤ most_house_rooms) rooms
-  pub few_stays : stays ≤ most_stays
+  pub nights : length rooms ≤ MOST_NIGHTS
+  pub few_rooms : All (λ r. r ≤ MOST_ROOMS) rooms
+  pub few_stays : stays ≤ MOST_STAYS

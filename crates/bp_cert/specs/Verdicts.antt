@@ -2,7 +2,8 @@
 use Rattle.std.specs.Prelude.{◌≡◌, ◌≢◌, ℕ, ◌≤◌, ◌<◌, length, slice_index}
 use Rattle.bp_types.specs.Program.{Program, stay_at, load, worth, bound}
 use Rattle.bp_types.specs.Claim.{Claim}
-use Rattle.bp_types.specs.Optimum.{Certifies, IsOptimum, greatest_price}
+use Rattle.bp_types.specs.declared.limits.TheConstants.{MOST_PRICE}
+use Rattle.bp_types.specs.Optimum.{Certifies, IsOptimum}
 use Rattle.bp_cert.specs.declared.verdict.Verdict.{Verdict}
 use Rattle.bp_cert.specs.declared.verdict.Verdict.TheVariants.{WrongLength, PriceTooGreat, AboveForecast, Overfull, Gap, Misvalued, Optimal}
 
@@ -22,7 +23,7 @@ HasLengths p c = (length c.sell ≡ length p.stays) × (length c.prices ≡ leng
 
 -- no price above the greatest one, on the first n nights
 abbrev pub PricesWithin : Claim → ℕ → Type 0
-PricesWithin c n = NoneAbove (λ _. greatest_price) (slice_index c.prices) n
+PricesWithin c n = NoneAbove (λ _. MOST_PRICE) (slice_index c.prices) n
 
 -- no stay sold above its forecast, of the first n
 abbrev pub SalesWithin : Program → Claim → ℕ → Type 0
@@ -36,7 +37,7 @@ LoadsWithin p c n = NoneAbove (slice_index p.rooms) (load p c.sell) n
 abbrev pub IsVerdict : Program → Claim → Verdict → Type 0
 IsVerdict p c WrongLength = HasLengths p c → ⊥
 IsVerdict p c (PriceTooGreat night) =
-    HasLengths p c × IsFirstAbove (λ _. greatest_price) (slice_index c.prices) (length p.rooms) night
+    HasLengths p c × IsFirstAbove (λ _. MOST_PRICE) (slice_index c.prices) (length p.rooms) night
 IsVerdict p c (AboveForecast stay) =
     HasLengths p c × PricesWithin c (length p.rooms)
     × IsFirstAbove (λ j. (stay_at p j).forecast) (slice_index c.sell) (length p.stays) stay

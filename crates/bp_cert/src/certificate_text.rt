@@ -2,22 +2,22 @@
 ghost use Rattle.std.specs.Prelude.{◌≡◌, ◌+◌, ◌≤◌, IfOk, IsErrOf};
 ghost use Rattle.bp_edges.specs.Counts.{Rose};
 ghost use Rattle.bp_edges.specs.Writing.{Writes};
+ghost use Rattle.bp_text.specs.Drafts.{Drafts};
 ghost use Rattle.bp_text.specs.Reading.{IsReading, IsText};
 ghost use Rattle.bp_cert.specs.Texts.{all_certificate_lines, certificate_text, IsSpeakable};
 
-use crate::claim_text::{certificate_lines, push_claim};
+use crate::claim_text::{certificate_lines, draft_claim, push_claim};
 use bp_edges::{Sink, WriteError};
-use bp_text::{Lines, TextError, at_end, push_line, word_line, write_text};
+use bp_text::{Draft, Lines, TextError, at_end, push_line, word_line};
 use bp_types::Certificate;
 use std::alloc::{AllocError, Global};
 
 fn read_lines(alloc: Global, lines: &mut Lines<'_>) -> Result<Certificate, TextError>
     ensures { IsReading all_certificate_lines IsSpeakable lines.old lines.new result }
 {
-    let mut numbers = Vec::new(alloc);
-    word_line(lines, b"certificate 1", &mut numbers)?;
+    word_line(lines, b"certificate 1")?;
     let certificate = certificate_lines(alloc, lines)?;
-    word_line(lines, b"end", &mut numbers)?;
+    word_line(lines, b"end")?;
     Ok(certificate)
 }
 
@@ -42,7 +42,7 @@ pub fn text_of_certificate(alloc: Global, certificate: &Certificate) -> Result<V
     Ok(text)
 }
 
-/// Writes the text of a certificate.
+/// Writes the text of a certificate as it is spelt.
 pub fn write_certificate<K: Sink>(
     alloc: Global,
     certificate: &Certificate,
@@ -54,6 +54,24 @@ pub fn write_certificate<K: Sink>(
     ensures steady { K.steady out.old → K.steady out.new }
     ensures faults { K.faults out.old ≤ K.faults out.new }
 {
-    let text = text_of_certificate(alloc, certificate)?;
-    write_text(alloc, &text, out)
+    let mut draft = Draft::new(alloc)?;
+    draft_certificate(&mut draft, certificate, out)?;
+    draft.hand_on(out)
+}
+
+/// Puts the text of a certificate behind a draft.
+pub fn draft_certificate<K: Sink>(
+    draft: &mut Draft,
+    certificate: &Certificate,
+    out: &mut K,
+) -> Result<(), WriteError>
+    ensures writes { Drafts (K.written out.old) (K.written out.new) draft.old draft.new (certificate_text certificate.now) result }
+    ensures failed { IsErrOf result WriteError.Failed → Rose (K.faults out.old) (K.faults out.new) }
+    ensures unfailing { K.steady out.old → ¬ IsErrOf result WriteError.Failed }
+    ensures steady { K.steady out.old → K.steady out.new }
+    ensures faults { K.faults out.old ≤ K.faults out.new }
+{
+    draft.push_line(b"certificate 1", &[], out)?;
+    draft_claim(draft, certificate, out)?;
+    draft.push_line(b"end", &[], out)
 }

@@ -3,25 +3,28 @@ ghost use Rattle.std.specs.Prelude.{◌≡◌, ◌+◌, ◌≤◌, ◌++◌, IsE
 ghost use Rattle.bp_edges.specs.Counts.{Rose};
 ghost use Rattle.bp_edges.specs.Writing.{Writes};
 ghost use Rattle.bp_text.specs.Lines.{text_of};
+ghost use Rattle.bp_text.specs.Drafts.{Drafts};
 ghost use Rattle.bp_text.specs.Reading.{IsReading};
 ghost use Rattle.bp_cert.specs.Texts.{claim_lines, IsSpeakable};
 
 use bp_edges::{Sink, WriteError};
 use bp_text::{
-    Bounds, Lines, TextError, open_line, push_line, push_wide_line, wide_number_line, write_text,
+    Bounds, Draft, Lines, TextError, open_line, push_line, push_wide_line, wide_number_line,
 };
 use bp_types::Certificate;
+use bp_types::limits::{MOST_NIGHTS, MOST_STAYS};
 use std::alloc::{AllocError, Global};
 
+/// The value of a certificate, at most, in minor units of money.
 const MOST_VALUE: u128 = 1_000_000_000_000_000_000_000_000_000_000;
 
 const SALES: Bounds = Bounds {
-    most: 4_000,
+    most: MOST_STAYS,
     greatest: u64::MAX,
 };
 
 const PRICES: Bounds = Bounds {
-    most: 400,
+    most: MOST_NIGHTS,
     greatest: u64::MAX,
 };
 
@@ -56,9 +59,26 @@ pub fn write_certificate_lines<K: Sink>(
     ensures steady { K.steady out.old → K.steady out.new }
     ensures faults { K.faults out.old ≤ K.faults out.new }
 {
-    let mut text = Vec::new(alloc);
-    push_claim(&mut text, certificate)?;
-    write_text(alloc, &text, out)
+    let mut draft = Draft::new(alloc)?;
+    draft_claim(&mut draft, certificate, out)?;
+    draft.hand_on(out)
+}
+
+/// Puts these three lines behind a draft.
+pub fn draft_claim<K: Sink>(
+    draft: &mut Draft,
+    certificate: &Certificate,
+    out: &mut K,
+) -> Result<(), WriteError>
+    ensures writes { Drafts (K.written out.old) (K.written out.new) draft.old draft.new (text_of (claim_lines certificate.now)) result }
+    ensures failed { IsErrOf result WriteError.Failed → Rose (K.faults out.old) (K.faults out.new) }
+    ensures unfailing { K.steady out.old → ¬ IsErrOf result WriteError.Failed }
+    ensures steady { K.steady out.old → K.steady out.new }
+    ensures faults { K.faults out.old ≤ K.faults out.new }
+{
+    draft.push_wide_line(b"value", certificate.value, out)?;
+    draft.push_line(b"sell", &certificate.sell, out)?;
+    draft.push_line(b"prices", &certificate.prices, out)
 }
 
 /// Puts these three lines at the end of a text.

@@ -4,21 +4,19 @@ ghost use Rattle.bp_cert.specs.Verdicts.{NoneAbove};
 ghost use Rattle.bp_cert.specs.Loads.{Counts, AreLoads, arriving, departing};
 
 use bp_types::Instance;
-
-/// One place for each night, and one for the morning after the last.
-const PLACES: usize = 401;
+use bp_types::limits::MOST_NODES;
 
 /// The load of each night, in units.
 #[derive(Clone, Copy)]
 pub struct Loads {
-    loads: [u64; PLACES],
+    loads: [u64; MOST_NODES],
 }
 
 /// What is sold to guests who arrive on each night, and to guests who depart on its morning, in units.
 #[derive(Clone, Copy)]
 struct Moves {
-    arrivals: [u64; PLACES],
-    departures: [u64; PLACES],
+    arrivals: [u64; MOST_NODES],
+    departures: [u64; MOST_NODES],
 }
 
 impl Loads {
@@ -30,7 +28,7 @@ impl Loads {
         ensures { AreLoads instance.now sell.now result.loads }
     {
         let moves = Moves::of(instance, sell);
-        let mut loads = [0; PLACES];
+        let mut loads = [0; MOST_NODES];
         let mut load: u64 = 0;
         for night in 0..instance.nights() {
             let place = night as usize;
@@ -42,7 +40,7 @@ impl Loads {
 
     /// The load of one night.
     pub fn on(&self, night: u32) -> u64
-        requires { night < 401 }
+        requires { night < MOST_NODES }
         ensures { result ≡ slice_index self.now.loads night }
     {
         self.loads[night as usize]
@@ -56,8 +54,8 @@ impl Moves {
         ensures arrivals { Counts (arriving instance.now sell.now) result.arrivals }
         ensures departures { Counts (departing instance.now sell.now) result.departures }
     {
-        let mut arrivals = [0; PLACES];
-        let mut departures = [0; PLACES];
+        let mut arrivals = [0; MOST_NODES];
+        let mut departures = [0; MOST_NODES];
         for stay in 0..instance.stays() {
             let span = instance.stay(stay).span;
             let sold = sell[stay as usize];

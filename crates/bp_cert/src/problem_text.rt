@@ -7,18 +7,9 @@ ghost use Rattle.bp_cert.specs.Texts.{problem_lines, head_lines, stay_line, stay
 ghost use Rattle.bp_text.specs.Lines.{Given};
 
 use bp_text::{Bounds, Lines, TextError, at_end, exact_line, number_line, word_line};
+use bp_types::limits::{MOST_FORECAST, MOST_NIGHTS, MOST_RATE, MOST_ROOMS, MOST_STAYS};
 use bp_types::{Instance, Span, Stay};
 use std::alloc::Global;
-
-const MOST_NIGHTS: u64 = 400;
-
-const MOST_STAYS: u64 = 4_000;
-
-const MOST_ROOMS: u64 = 10_000;
-
-const MOST_RATE: u64 = 1_000_000_000;
-
-const MOST_FORECAST: u64 = 1_000_000;
 
 /// What stands before the stays of a problem: its rooms by night, and how many stays follow.
 #[derive(Drop)]
@@ -27,29 +18,25 @@ struct Head {
     stays: u64,
 }
 
-fn read_head(
-    alloc: Global,
-    lines: &mut Lines<'_>,
-    numbers: &mut Vec<u64>,
-) -> Result<Head, TextError>
+fn read_head(alloc: Global, lines: &mut Lines<'_>) -> Result<Head, TextError>
     ensures { MatchResult result
         (λ h. IsHead h.rooms.items h.stays × GivesLines lines.old lines.new (head_lines h.rooms.items h.stays) lines.new.rest)
         (λ e. IsReading problem_lines IsProblem lines.old lines.new (Err e)) }
 {
     let mut rooms = Vec::new(alloc);
-    word_line(lines, b"problem 1", numbers)?;
-    let nights = number_line(lines, b"nights", 1, MOST_NIGHTS, numbers)?;
+    word_line(lines, b"problem 1")?;
+    let nights = number_line(lines, b"nights", 1, MOST_NIGHTS as u64)?;
     let bounds = Bounds {
         most: nights as usize,
         greatest: MOST_ROOMS,
     };
     exact_line(lines, b"rooms", bounds, &mut rooms)?;
-    let stays = number_line(lines, b"stays", 0, MOST_STAYS, numbers)?;
+    let stays = number_line(lines, b"stays", 0, MOST_STAYS as u64)?;
     Ok(Head { rooms, stays })
 }
 
 fn next_stay(lines: &mut Lines<'_>, nights: u32, numbers: &mut Vec<u64>) -> Result<Stay, TextError>
-    requires { nights ≤ 400 }
+    requires { nights ≤ MOST_NIGHTS }
     ensures { IsLine (codes "stay") (λ ns. length ns ≡ 4) (IsStayWithin nights) lines.old lines.new (seen_as stay_numbers result) }
 {
     let bounds = Bounds {
@@ -81,7 +68,6 @@ fn read_stays(
     lines: &mut Lines<'_>,
     rooms: &[u64],
     count: u64,
-    numbers: &mut Vec<u64>,
 ) -> Result<Vec<Stay>, TextError>
     requires { IsHead rooms.now count }
     ensures { MatchResult result
@@ -90,8 +76,9 @@ fn read_stays(
 {
     let nights = rooms.len() as u32;
     let mut stays = Vec::new(alloc);
+    let mut numbers = Vec::new(alloc);
     for _ in 0..count {
-        let stay = next_stay(lines, nights, numbers)?;
+        let stay = next_stay(lines, nights, &mut numbers)?;
         stays.push(stay)?;
     }
     Ok(stays)
@@ -100,10 +87,9 @@ fn read_stays(
 fn read_lines(alloc: Global, lines: &mut Lines<'_>) -> Result<Instance, TextError>
     ensures { IsReading problem_lines IsProblem lines.old lines.new result }
 {
-    let mut numbers = Vec::new(alloc);
-    let head = read_head(alloc, lines, &mut numbers)?;
-    let stays = read_stays(alloc, lines, &head.rooms, head.stays, &mut numbers)?;
-    word_line(lines, b"end", &mut numbers)?;
+    let head = read_head(alloc, lines)?;
+    let stays = read_stays(alloc, lines, &head.rooms, head.stays)?;
+    word_line(lines, b"end")?;
     Ok(Instance::within(head.rooms, stays))
 }
 

@@ -1,12 +1,11 @@
 ghost use Rattle.std.specs.Prelude.{◌≡◌, ℕ, ◌<◌, ◌≤◌, length, slice_index, MatchOption};
 ghost use Rattle.bp_types.specs.Program.{load, stay_at};
-ghost use Rattle.bp_types.specs.Optimum.{Certifies, greatest_price};
+ghost use Rattle.bp_types.specs.Optimum.{Certifies};
 ghost use Rattle.bp_cert.specs.Verdicts.{IsVerdict, SaysOptimum, IsFirstAbove, NoneAbove};
 
 use crate::loads::Loads;
+use bp_types::limits::MOST_PRICE;
 use bp_types::{Certificate, Instance, law};
-
-const GREATEST_PRICE: u64 = 1_000_000_000;
 
 /// What a check finds: the first test that a certificate fails, at its first place, or the optimum.
 #[derive(Clone, Copy, Debug, PartialEq, Eq)]
@@ -70,11 +69,11 @@ fn first_verdict(instance: &Instance, certificate: &Certificate) -> Verdict
 fn price_too_great(prices: &[u64], nights: u32) -> Option<u32>
     requires { length prices.now ≡ nights }
     ensures { MatchOption result
-        (NoneAbove (λ _. greatest_price) (slice_index prices.now) nights)
-        (λ n. IsFirstAbove (λ _. greatest_price) (slice_index prices.now) nights n) }
+        (NoneAbove (λ _. MOST_PRICE) (slice_index prices.now) nights)
+        (λ n. IsFirstAbove (λ _. MOST_PRICE) (slice_index prices.now) nights n) }
 {
     for night in 0..nights {
-        if prices[night as usize] > GREATEST_PRICE {
+        if prices[night as usize] > MOST_PRICE {
             return Some(night);
         }
     }

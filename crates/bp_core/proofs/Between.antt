@@ -4,12 +4,12 @@ use Rattle.std.proofs.lemmas.List.{length-take-le}
 use Rattle.std.specs.List.{flat_map, range_with_len}
 use Rattle.bp_types.specs.declared.change.Change.{Change}
 use Rattle.bp_types.specs.House.{Inn, IsHouse}
+use Rattle.bp_types.specs.Changes.{Leads}
 use Rattle.bp_core.specs.Lines.{History, line_at}
 use Rattle.bp_core.specs.Changes.{deltas_at, deltas_between}
 use Rattle.bp_core.specs.Instance.{instance_of, instance_at}
 use Rattle.bp_core.specs.Laws.{DeltasLead}
 use Rattle.bp_core.specs.Legal.{IsLegal}
-use Rattle.bp_core.specs.Leading.{Leads}
 use Rattle.bp_core.proofs.KeptBetween.{flat_map-more}
 use Rattle.bp_core.proofs.LineLeads.{Stands, line_leads}
 use Rattle.bp_core.proofs.Prefixes.{prefixes_are_legal, take-more}

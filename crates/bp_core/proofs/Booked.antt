@@ -7,6 +7,7 @@ use Rattle.bp_types.specs.declared.change.Change.TheVariants.{Rooms, Demand}
 use Rattle.bp_types.specs.Program.{covers}
 use Rattle.bp_types.specs.House.{Inn}
 use Rattle.bp_types.specs.declared.command.Command.TheVariants.{Book}
+use Rattle.bp_types.specs.declared.limits.TheConstants.{CALLERS}
 use Rattle.bp_ledger.specs.Inventory.{Inventory, taken}
 use Rattle.bp_core.specs.declared.line.Act.TheVariants.{Do}
 use Rattle.bp_core.specs.declared.line.Reply.{Reply}
@@ -20,7 +21,7 @@ use Rattle.bp_core.specs.Instance.{house_stay, span_of, sold_at, forecast_of, re
 use Rattle.bp_core.specs.Answer.{book_reply}
 use Rattle.bp_core.specs.Legal.{IsLegal, IsLegalLine, is_in_range}
 use Rattle.bp_core.specs.Log.{Logged}
-use Rattle.bp_core.specs.Roll.{Kept, callers, bookings_of, with_bookings}
+use Rattle.bp_core.specs.Roll.{Kept, bookings_of, with_bookings}
 use Rattle.bp_core.specs.Keeping.{IsKept, numbers, inventory_of, fate_by, AreBookingsOf}
 use Rattle.bp_core.proofs.Counts.{and_false, own_number, other_number}
 use Rattle.bp_core.proofs.Cases.{cond_same}
@@ -86,8 +87,8 @@ stock_refused h H caller stay reply refused =
     stock_kept h H x (λ n. cond_same {X = Option ℕ} (is_done reply) None) (λ k nth. and_false (caller == k)) (λ n. rw refused refl) (λ n. cond_same {X = ℕ} (is_group_accepted reply) 0)
 
 -- the roll with a booking call more
-pub roll_booked : (h : Inn) (H : History) (roll : Kept) (caller stay : ℕ) (reply : Reply) (b : Booking) → IsLegal h H → length roll.bookings ≡ callers → caller < callers → ((k : ℕ) → k < callers → AreBookingsOf H k (bookings_of roll k)) → b.stay ≡ stay → b.fate ≡ fate_by (is_accepted reply) false →
-    (k : ℕ) → k < callers → AreBookingsOf (H ++ plain_line caller (Do (Book stay)) reply ∷ []) k (bookings_of (with_bookings roll caller (bookings_of roll caller ++ b ∷ [])) k)
+pub roll_booked : (h : Inn) (H : History) (roll : Kept) (caller stay : ℕ) (reply : Reply) (b : Booking) → IsLegal h H → length roll.bookings ≡ CALLERS → caller < CALLERS → ((k : ℕ) → k < CALLERS → AreBookingsOf H k (bookings_of roll k)) → b.stay ≡ stay → b.fate ≡ fate_by (is_accepted reply) false →
+    (k : ℕ) → k < CALLERS → AreBookingsOf (H ++ plain_line caller (Do (Book stay)) reply ∷ []) k (bookings_of (with_bookings roll caller (bookings_of roll caller ++ b ∷ [])) k)
 roll_booked h H roll caller stay reply b legal each small were stay_is fate_is k within =
     let x : Line = plain_line caller (Do (Book stay)) reply in
     elim (cases_eq k caller) [
@@ -102,7 +103,7 @@ roll_booked h H roll caller stay reply b legal each small were stay_is fate_is k
           subst P (sym same) (bookings_kept H x k (bookings_of roll k) (ap (λ t. t && true) (other_number caller k other)) (λ nth. and_false (caller == k)) (were k within))
     ]
 
-pub book_follows : (h : Inn) (log : Logged) (roll : Kept) (inventory inventory' : Inventory) (forecasts rates : List ℕ) (caller stay value : ℕ) (reply : Reply) (b : Booking) → IsKept h log roll inventory forecasts rates → caller < callers → stay < length h.stays →
+pub book_follows : (h : Inn) (log : Logged) (roll : Kept) (inventory inventory' : Inventory) (forecasts rates : List ℕ) (caller stay value : ℕ) (reply : Reply) (b : Booking) → IsKept h log roll inventory forecasts rates → caller < CALLERS → stay < length h.stays →
     value ≡ forecast_of h log.lines stay - h.limits.unit → b.stay ≡ stay → b.fate ≡ fate_by (is_accepted reply) false → inventory' ≡ inventory_of h (log.lines ++ plain_line caller (Do (Book stay)) reply ∷ []) →
     Follows h log.lines roll (with_bookings roll caller (bookings_of roll caller ++ b ∷ [])) inventory' (set forecasts stay value) rates (plain_line caller (Do (Book stay)) reply)
 book_follows h log roll inventory inventory' forecasts rates caller stay value reply b kept small within value_is stay_is fate_is stock = record {

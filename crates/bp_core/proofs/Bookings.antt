@@ -8,6 +8,7 @@ use Rattle.std.proofs.lemmas.List.Sums.{length-filter, sum_by-cons}
 use Rattle.std.proofs.lemmas.Option.{slice_get_within}
 use Rattle.bp_types.specs.House.{Inn}
 use Rattle.bp_types.specs.declared.command.Command.TheVariants.{Book, Cancel, Reforecast, Reprice, Resize, Group}
+use Rattle.bp_types.specs.declared.limits.TheConstants.{CALLERS}
 use Rattle.bp_core.specs.declared.line.Act.{Act}
 use Rattle.bp_core.specs.declared.line.Act.TheVariants.{Do, Publish, Enrol, Leave}
 use Rattle.bp_core.specs.declared.line.Reply.{Reply}
@@ -18,14 +19,13 @@ use Rattle.bp_core.specs.Lines.{History, is_book_by, is_command, commands, is_ca
 use Rattle.bp_core.specs.Callers.{may_act, has_enrolled, has_left}
 use Rattle.bp_core.specs.Answer.{IsReply, cancel_reply, given_up_reply}
 use Rattle.bp_core.specs.Legal.{IsLegal}
-use Rattle.bp_core.specs.Roll.{callers}
 use Rattle.bp_core.specs.Keeping.{AreBookingsOf, fate_by}
 use Rattle.bp_core.proofs.Counts.{and_false, did_old, own_number, counted_at}
 use Rattle.bp_core.proofs.Pushes.{any-push, count-push}
 use Rattle.bp_core.proofs.Prefixes.{at_each_position}
 
 -- who may act has a number
-pub act_is_small : (h : Inn) (H : History) (caller : ℕ) → IsLegal h H → IsTrue (may_act H caller) → caller < callers
+pub act_is_small : (h : Inn) (H : History) (caller : ℕ) → IsLegal h H → IsTrue (may_act H caller) → caller < CALLERS
 act_is_small h H caller legal may =
     elim (or_cases (caller == 0) (has_enrolled H caller && not (has_left H caller)) may) [
       | inl opener ↦ omega (arith, eqb-true _ _ opener)

@@ -11,6 +11,7 @@ use Rattle.bp_types.specs.declared.command.Command.TheVariants.{Book, Cancel, Re
 use Rattle.bp_types.specs.Program.{covers}
 use Rattle.bp_types.specs.House.{Inn}
 use Rattle.bp_types.proofs.SumLemmas.{sum_below-at}
+use Rattle.bp_types.specs.declared.limits.TheConstants.{CALLERS}
 use Rattle.bp_ledger.specs.Inventory.{Inventory, released}
 use Rattle.bp_core.specs.declared.line.Act.{Act}
 use Rattle.bp_core.specs.declared.line.Act.TheVariants.{Do, Publish, Enrol, Leave}
@@ -28,7 +29,7 @@ use Rattle.bp_core.specs.Changes.{span_booked}
 use Rattle.bp_core.specs.Legal.{IsLegal, IsLegalLine, is_in_range}
 use Rattle.bp_core.specs.Held.{IsHeld}
 use Rattle.bp_core.specs.Log.{Logged}
-use Rattle.bp_core.specs.Roll.{Kept, callers, bookings_of, with_bookings}
+use Rattle.bp_core.specs.Roll.{Kept, bookings_of, with_bookings}
 use Rattle.bp_core.specs.Keeping.{IsKept, inventory_of, AreBookingsOf, IsBookingOf, fate_by}
 use Rattle.bp_core.proofs.Counts.{and_false, did_true, own_number, other_number}
 use Rattle.bp_core.proofs.Cases.{cases_Option}
@@ -262,7 +263,7 @@ bookings_given_up H caller nth stay bs b from_one were held stay_is fate_is =
           ];
     }
 
-pub give_up_follows : (h : Inn) (log : Logged) (roll : Kept) (inventory inventory' : Inventory) (forecasts rates : List ℕ) (caller nth stay : ℕ) (b : Booking) → IsKept h log roll inventory forecasts rates → caller < callers → 1 ≤ nth → IsHeld log.lines caller nth stay → b.stay ≡ stay → b.fate ≡ GivenUp → inventory' ≡ released inventory (span_of h stay) 1 →
+pub give_up_follows : (h : Inn) (log : Logged) (roll : Kept) (inventory inventory' : Inventory) (forecasts rates : List ℕ) (caller nth stay : ℕ) (b : Booking) → IsKept h log roll inventory forecasts rates → caller < CALLERS → 1 ≤ nth → IsHeld log.lines caller nth stay → b.stay ≡ stay → b.fate ≡ GivenUp → inventory' ≡ released inventory (span_of h stay) 1 →
     Follows h log.lines roll (with_bookings roll caller (set (bookings_of roll caller) (nth - 1) b)) inventory' forecasts rates (plain_line caller (Do (Cancel nth)) Cancelled)
 give_up_follows h log roll inventory inventory' forecasts rates caller nth stay b kept small from_one held stay_is fate_is stock =
     let H : History = log.lines in

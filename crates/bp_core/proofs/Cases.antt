@@ -4,8 +4,8 @@ use Rattle.std.specs.List.{find}
 use Rattle.std.proofs.lemmas.Bool.{and_parts, leb-true, ltb-true, ltb-false}
 use Rattle.bp_types.specs.declared.stay.Span.{Span}
 use Rattle.bp_types.specs.Program.{covers}
-use Rattle.bp_ledger.specs.Inventory.{nights_of}
 use Rattle.bp_types.proofs.Firsts.{none_passes}
+use Rattle.bp_types.specs.Spans.{nights_of}
 
 pub cases_Option : {X : Type 0} (o : Option X) → (o ≡ None) ⊎ ((x : X) × (o ≡ Some x))
 cases_Option None = inl refl

@@ -2,6 +2,7 @@
 use Rattle.std.proofs.Common.{◌≡◌, ℕ, ◌<◌, ◌≤◌, refl, ap, sym, ◌∙◌, arith, true, false, ◌==◌, ◌&&◌, ◌||◌, IsTrue, List, [], ◌∷◌, ◌++◌, length, set, get_or, None, length-set, get_or-set_same, get_or-set_other, inl, inr}
 use Rattle.std.proofs.lemmas.Bool.{cases_eq, and_parts, not-true, leb-true}
 use Rattle.bp_types.specs.House.{Inn}
+use Rattle.bp_types.specs.declared.limits.TheConstants.{CALLERS}
 use Rattle.bp_ledger.specs.Inventory.{Inventory}
 use Rattle.bp_core.specs.declared.line.Act.TheVariants.{Enrol, Leave}
 use Rattle.bp_core.specs.declared.line.Reply.TheVariants.{Done}
@@ -13,7 +14,7 @@ use Rattle.bp_core.specs.Lines.{History, is_by}
 use Rattle.bp_core.specs.Callers.{may_log, is_leave, has_enrolled, has_left}
 use Rattle.bp_core.specs.Legal.{IsLegal, IsLegalLine}
 use Rattle.bp_core.specs.Log.{Logged}
-use Rattle.bp_core.specs.Roll.{Kept, callers, standing_of, with_standing}
+use Rattle.bp_core.specs.Roll.{Kept, standing_of, with_standing}
 use Rattle.bp_core.specs.Keeping.{IsKept, standing_by}
 use Rattle.bp_core.proofs.Counts.{counted_at, and_false, did_old, did_true, own_number, other_number, none_of_some, may_leave, enrolled_by, left_by, enrolled_stays, left_stays}
 use Rattle.bp_core.proofs.Effects.{opened}
@@ -57,7 +58,7 @@ standing_set roll caller k standing within = (
   λ other. get_or-set_other roll.standings caller k standing New other,
 )
 
-pub enrol_follows : (h : Inn) (log : Logged) (roll : Kept) (inventory : Inventory) (forecasts rates : List ℕ) (caller : ℕ) → IsKept h log roll inventory forecasts rates → caller < callers → IsTrue (may_log log.lines caller Enrol) →
+pub enrol_follows : (h : Inn) (log : Logged) (roll : Kept) (inventory : Inventory) (forecasts rates : List ℕ) (caller : ℕ) → IsKept h log roll inventory forecasts rates → caller < CALLERS → IsTrue (may_log log.lines caller Enrol) →
     Follows h log.lines roll (with_standing roll caller Present) inventory forecasts rates (plain_line caller Enrol Done)
 enrol_follows h log roll inventory forecasts rates caller kept small may =
     let x : Line = plain_line caller Enrol Done in
@@ -83,7 +84,7 @@ enrol_follows h log roll inventory forecasts rates caller kept small may =
       rates_are = kept.rates_are ∙ quiet_rates h log.lines x (λ j. refl);
     }
 
-pub leave_follows : (h : Inn) (log : Logged) (roll : Kept) (inventory : Inventory) (forecasts rates : List ℕ) (caller : ℕ) → IsKept h log roll inventory forecasts rates → caller < callers → IsTrue (may_log log.lines caller Leave) →
+pub leave_follows : (h : Inn) (log : Logged) (roll : Kept) (inventory : Inventory) (forecasts rates : List ℕ) (caller : ℕ) → IsKept h log roll inventory forecasts rates → caller < CALLERS → IsTrue (may_log log.lines caller Leave) →
     Follows h log.lines roll (with_standing roll caller Gone) inventory forecasts rates (plain_line caller Leave Done)
 leave_follows h log roll inventory forecasts rates caller kept small may =
     let x : Line = plain_line caller Leave Done in
@@ -110,8 +111,8 @@ leave_follows h log roll inventory forecasts rates caller kept small may =
     }
 
 -- the callers that enrol, or leave, have numbers
-pub enrol_is_small : (h : Inn) (H : History) (caller : ℕ) → IsLegal h H → IsTrue (may_log H caller Enrol) → caller < callers
+pub enrol_is_small : (h : Inn) (H : History) (caller : ℕ) → IsLegal h H → IsTrue (may_log H caller Enrol) → caller < CALLERS
 enrol_is_small h H caller legal may = let small : caller ≤ 63 = leb-true _ _ (and_parts _ _ (and_parts _ _ may).0).1 in omega (arith, small)
 
-pub leave_is_small : (h : Inn) (H : History) (caller : ℕ) → IsLegal h H → IsTrue (may_log H caller Leave) → caller < callers
+pub leave_is_small : (h : Inn) (H : History) (caller : ℕ) → IsLegal h H → IsTrue (may_log H caller Leave) → caller < CALLERS
 leave_is_small h H caller legal may = let small : caller ≤ 63 = (counted_at h H legal).numbered caller (may_leave H caller may).0 in omega (arith, small)

@@ -7,6 +7,7 @@ use Rattle.bp_types.specs.declared.command.Quoted.{Quoted}
 use Rattle.bp_types.specs.Program.{Program, covers}
 use Rattle.bp_types.specs.Displacement.{IsDisplacement}
 use Rattle.bp_types.specs.House.{Inn}
+use Rattle.bp_types.specs.Spans.{first_short}
 use Rattle.bp_ledger.specs.Inventory.{Inventory, taken}
 use Rattle.bp_core.specs.declared.line.Act.TheVariants.{Do}
 use Rattle.bp_core.specs.declared.line.Reply.{Reply}
@@ -17,7 +18,7 @@ use Rattle.bp_core.specs.Acting.{plain_line, command_refusal}
 use Rattle.bp_core.specs.Lines.{History, commands}
 use Rattle.bp_core.specs.Callers.{may_log}
 use Rattle.bp_core.specs.Changes.{changes_after}
-use Rattle.bp_core.specs.Instance.{sold_at, first_without, instance_of, instance_at}
+use Rattle.bp_core.specs.Instance.{sold_at, instance_of, instance_at, left_at}
 use Rattle.bp_core.specs.Answer.{IsGroupReply, IsPricedReply, group_reply}
 use Rattle.bp_core.specs.Legal.{IsLegal, IsLegalLine, is_in_range}
 use Rattle.bp_core.specs.Log.{Logged}
@@ -45,13 +46,13 @@ group_is_legal h H caller rooms amount span reply legal may range not_full is = 
   reply = is;
 }
 
-pub no_room_reply : (h : Inn) (H : History) (span : Span) (rooms amount night : ℕ) → first_without h H span rooms ≡ Some night → IsGroupReply h H span rooms amount (GroupNoRoom night)
+pub no_room_reply : (h : Inn) (H : History) (span : Span) (rooms amount night : ℕ) → first_short (left_at h H) span rooms ≡ Some night → IsGroupReply h H span rooms amount (GroupNoRoom night)
 no_room_reply h H span rooms amount night first =
     let P : Option ℕ → Type 0 = λ o. MatchOption o (IsPricedReply h H span rooms amount (GroupNoRoom night)) (λ n. GroupNoRoom night ≡ GroupNoRoom n) in
     subst P (sym first) refl
 
 -- a group for which there are rooms, at its displacement
-priced_reply : (h : Inn) (H : History) (span : Span) (rooms amount displacement : ℕ) (reply : Reply) → first_without h H span rooms ≡ None → IsDisplacement (instance_of h H) span (h.limits.unit * rooms) displacement → reply ≡ group_reply (h.limits.unit * amount) displacement →
+priced_reply : (h : Inn) (H : History) (span : Span) (rooms amount displacement : ℕ) (reply : Reply) → first_short (left_at h H) span rooms ≡ None → IsDisplacement (instance_of h H) span (h.limits.unit * rooms) displacement → reply ≡ group_reply (h.limits.unit * amount) displacement →
     IsGroupReply h H span rooms amount reply
 priced_reply h H span rooms amount displacement reply first displaces is =
     let P : Option ℕ → Type 0 = λ o. MatchOption o (IsPricedReply h H span rooms amount reply) (λ n. reply ≡ GroupNoRoom n) in
@@ -63,13 +64,13 @@ quote_holds h H span units displacement position within none displaces =
     let P : Program → Type 0 = λ p. IsDisplacement p span units displacement in
     subst P (instance_unchanged h H position within none) displaces
 
-pub group_too_low : (h : Inn) (H : History) (span : Span) (rooms amount displacement position paid : ℕ) → first_without h H span rooms ≡ None → position ≤ length H → changes_after H position ≡ 0 → IsDisplacement (instance_at h H position) span (h.limits.unit * rooms) displacement →
+pub group_too_low : (h : Inn) (H : History) (span : Span) (rooms amount displacement position paid : ℕ) → first_short (left_at h H) span rooms ≡ None → position ≤ length H → changes_after H position ≡ 0 → IsDisplacement (instance_at h H position) span (h.limits.unit * rooms) displacement →
     paid ≡ h.limits.unit * amount → paid < displacement → IsGroupReply h H span rooms amount (GroupTooLow displacement)
 group_too_low h H span rooms amount displacement position paid first within none displaces is below =
     let e : nat_lt (h.limits.unit * amount) displacement ≡ true = ap (λ n. nat_lt n displacement) (sym is) ∙ lt-ltb _ _ below in
     priced_reply h H span rooms amount displacement (GroupTooLow displacement) first (quote_holds h H span (h.limits.unit * rooms) displacement position within none displaces) (sym (cond-true _ _ _ e))
 
-pub group_paid : (h : Inn) (H : History) (span : Span) (rooms amount displacement position paid : ℕ) → first_without h H span rooms ≡ None → position ≤ length H → changes_after H position ≡ 0 → IsDisplacement (instance_at h H position) span (h.limits.unit * rooms) displacement →
+pub group_paid : (h : Inn) (H : History) (span : Span) (rooms amount displacement position paid : ℕ) → first_short (left_at h H) span rooms ≡ None → position ≤ length H → changes_after H position ≡ 0 → IsDisplacement (instance_at h H position) span (h.limits.unit * rooms) displacement →
     paid ≡ h.limits.unit * amount → displacement ≤ paid → IsGroupReply h H span rooms amount (GroupAccepted displacement)
 group_paid h H span rooms amount displacement position paid first within none displaces is above =
     let e : nat_lt (h.limits.unit * amount) displacement ≡ false = ap (λ n. nat_lt n displacement) (sym is) ∙ le-ltb _ _ above in
@@ -123,14 +124,14 @@ group_follows h log roll inventory inventory' forecasts rates caller rooms amoun
     }
 
 -- whether a group is refused
-pub refusal_none : (h : Inn) (H : History) (span : Span) (rooms amount night : ℕ) (quoted : Option Quoted) → first_without h H span rooms ≡ Some night → command_refusal h H (Group span rooms amount) quoted ≡ None
+pub refusal_none : (h : Inn) (H : History) (span : Span) (rooms amount night : ℕ) (quoted : Option Quoted) → first_short (left_at h H) span rooms ≡ Some night → command_refusal h H (Group span rooms amount) quoted ≡ None
 refusal_none h H span rooms amount night quoted first = rw first refl
 
-pub refusal_unquoted : (h : Inn) (H : History) (span : Span) (rooms amount : ℕ) (quoted : Option Quoted) → first_without h H span rooms ≡ None → quoted ≡ None → command_refusal h H (Group span rooms amount) quoted ≡ Some Unquoted
+pub refusal_unquoted : (h : Inn) (H : History) (span : Span) (rooms amount : ℕ) (quoted : Option Quoted) → first_short (left_at h H) span rooms ≡ None → quoted ≡ None → command_refusal h H (Group span rooms amount) quoted ≡ Some Unquoted
 refusal_unquoted h H span rooms amount quoted first none = rw (first, none) refl
 
-pub refusal_stale : (h : Inn) (H : History) (span : Span) (rooms amount : ℕ) (quoted : Option Quoted) (q : Quoted) → first_without h H span rooms ≡ None → quoted ≡ Some q → 1 ≤ changes_after H q.position → command_refusal h H (Group span rooms amount) quoted ≡ Some (Stale (changes_after H q.position))
+pub refusal_stale : (h : Inn) (H : History) (span : Span) (rooms amount : ℕ) (quoted : Option Quoted) (q : Quoted) → first_short (left_at h H) span rooms ≡ None → quoted ≡ Some q → 1 ≤ changes_after H q.position → command_refusal h H (Group span rooms amount) quoted ≡ Some (Stale (changes_after H q.position))
 refusal_stale h H span rooms amount quoted q first some stale = rw (first, some, le-leb _ _ stale) refl
 
-pub refusal_fresh : (h : Inn) (H : History) (span : Span) (rooms amount : ℕ) (quoted : Option Quoted) (q : Quoted) → first_without h H span rooms ≡ None → quoted ≡ Some q → changes_after H q.position ≡ 0 → command_refusal h H (Group span rooms amount) quoted ≡ None
+pub refusal_fresh : (h : Inn) (H : History) (span : Span) (rooms amount : ℕ) (quoted : Option Quoted) (q : Quoted) → first_short (left_at h H) span rooms ≡ None → quoted ≡ Some q → changes_after H q.position ≡ 0 → command_refusal h H (Group span rooms amount) quoted ≡ None
 refusal_fresh h H span rooms amount quoted q first some fresh = rw (first, some, fresh) refl

@@ -7,6 +7,7 @@ use Rattle.std.proofs.Math.Seq.{take-append_seam}
 use Rattle.bp_types.specs.House.{is_from_one}
 use Rattle.bp_types.specs.declared.command.Command.TheVariants.{Book, Cancel, Reforecast, Reprice, Resize, Group}
 use Rattle.bp_types.specs.Displacement.{IsDisplacement}
+use Rattle.bp_types.specs.Claim.{IsCertificateOf}
 use Rattle.bp_core.specs.declared.line.Act.{Act}
 use Rattle.bp_core.specs.declared.line.Act.TheVariants.{Do as DoAct, Publish as PublishAct, Enrol as EnrolAct, Leave as LeaveAct}
 use Rattle.bp_core.specs.declared.line.Line.{Line}
@@ -16,7 +17,6 @@ use Rattle.bp_core.specs.Lines.{History, is_by, calls}
 use Rattle.bp_core.specs.Callers.{greatest_caller, is_enrol, is_leave, has_entry, has_enrolled, has_left, may_act, may_log}
 use Rattle.bp_core.specs.Changes.{is_change, changes_between}
 use Rattle.bp_core.specs.Instance.{instance_of}
-use Rattle.bp_core.specs.Legal.{IsCertificateOf}
 use Rattle.bp_core.specs.Acting.{Diary, IsLogged, IsRefused, refusal, line_of}
 use Rattle.bp_core.specs.Calls.{Continues}
 use Rattle.bp_core.specs.Staying.{IsPrefix, RightStaysRight, AnsweredContinues, ContinuedIsPrefix, MayLogByOwn, ChangesGrow, ChangesStay, InstanceStays, InstanceAtStart}

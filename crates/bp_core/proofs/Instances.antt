@@ -8,14 +8,13 @@ use Rattle.bp_types.specs.declared.stay.Stay.{Stay}
 use Rattle.bp_types.specs.declared.change.Change.TheVariants.{Rooms, Demand, Rate}
 use Rattle.bp_types.specs.Program.{Program, no_stay, stay_at, covers}
 use Rattle.bp_types.specs.Rooms.{moved, rooms_moved}
-use Rattle.bp_types.specs.Changes.{with_forecast, with_rate, Fits}
-use Rattle.bp_types.specs.Limits.{most_rooms, most_forecast}
+use Rattle.bp_types.specs.Changes.{with_forecast, with_rate, Fits, Leads}
 use Rattle.bp_types.specs.House.{Inn}
 use Rattle.bp_types.proofs.RoomLemmas.{length-rooms_moved, rooms_moved-at}
 use Rattle.bp_types.proofs.Spans.{covers_inside}
+use Rattle.bp_types.specs.declared.limits.TheConstants.{MOST_FORECAST, MOST_UNITS}
 use Rattle.bp_core.specs.Lines.{History}
 use Rattle.bp_core.specs.Instance.{span_of, left_at, units_left_at, rate_of, forecast_of, stay_now, instance_of}
-use Rattle.bp_core.specs.Leading.{Leads}
 use Rattle.bp_core.proofs.Effects.{numbers_same}
 use Rattle.bp_core.proofs.Ranges.{IsRate}
 use Rattle.bp_core.proofs.Turns.{leads_one}
@@ -65,7 +64,7 @@ pub instance_as_before : (h : Inn) (H G : History) → (instance_of h H).rooms �
 instance_as_before h H G rooms stays = both_lists h G (instance_of h H).rooms (instance_of h H).stays rooms stays
 
 -- a forecast leads there
-pub demand_leads : (h : Inn) (H G : History) (rooms : List ℕ) (stay value : ℕ) → rooms ≡ (instance_of h G).rooms → stay < length h.stays → value ≡ forecast_of h G stay → value ≤ most_forecast →
+pub demand_leads : (h : Inn) (H G : History) (rooms : List ℕ) (stay value : ℕ) → rooms ≡ (instance_of h G).rooms → stay < length h.stays → value ≡ forecast_of h G stay → value ≤ MOST_FORECAST →
     ((j : ℕ) → rate_of h H j ≡ rate_of h G j) → ((j : ℕ) → (j ≡ stay → ⊥) → forecast_of h H j ≡ forecast_of h G j) →
     Leads (record { rooms = rooms; stays = (instance_of h H).stays }) (Demand stay value ∷ []) (instance_of h G)
 demand_leads h H G rooms stay value same within is small rates others =
@@ -94,7 +93,7 @@ pub record MovesRooms (h : Inn) (H G : History) (span : Span) (up : Bool) (k : �
   pub within : span.to ≤ length h.rooms
   pub moves : (n : ℕ) → n < length h.rooms → left_at h G n ≡ cond (covers span n) (moved (left_at h H n) up k) (left_at h H n)
   pub enough : up ≡ false → (n : ℕ) → span.from ≤ n → n < span.to → k ≤ left_at h H n
-  pub small : (n : ℕ) → n < length h.rooms → units_left_at h G n ≤ most_rooms
+  pub small : (n : ℕ) → n < length h.rooms → units_left_at h G n ≤ MOST_UNITS
 
 units_move : (h : Inn) (H G : History) (span : Span) (up : Bool) (k : ℕ) → MovesRooms h H G span up k → rooms_moved (instance_of h H).rooms span up (h.limits.unit * k) ≡ (instance_of h G).rooms
 units_move h H G span up k is =

@@ -6,6 +6,7 @@ use Rattle.std.proofs.lemmas.List.{take-append-le}
 use Rattle.std.proofs.lemmas.List.FromFn.{map-range_with_len_more, fill_by_all, length-map-range_with_len, get_or-map-range_with_len}
 use Rattle.bp_types.specs.declared.change.Change.{Change}
 use Rattle.bp_types.specs.House.{Inn}
+use Rattle.bp_types.specs.declared.limits.TheConstants.{CALLERS}
 use Rattle.bp_ledger.specs.Inventory.{Inventory}
 use Rattle.bp_core.specs.declared.line.Line.{Line}
 use Rattle.bp_core.specs.Lines.{History, line_at}
@@ -14,7 +15,7 @@ use Rattle.bp_core.specs.Instance.{forecast_of, rate_of}
 use Rattle.bp_core.specs.Changes.{deltas_at, deltas_of}
 use Rattle.bp_core.specs.Legal.{IsLegal, IsLegalLine}
 use Rattle.bp_core.specs.Log.{Logged}
-use Rattle.bp_core.specs.Roll.{Kept, callers, standing_of, bookings_of}
+use Rattle.bp_core.specs.Roll.{Kept, standing_of, bookings_of}
 use Rattle.bp_core.specs.Keeping.{IsKept, numbers, inventory_of, standing_by, AreBookingsOf}
 use Rattle.bp_core.proofs.Pushes.{length-push, line_at-old, line_at-new}
 
@@ -53,10 +54,10 @@ fed_more h H x feed fed =
 -- the parts that follow a line
 pub record Follows (h : Inn) (H : History) (roll roll' : Kept) (inventory' : Inventory) (forecasts' rates' : List ℕ) (x : Line) : Type 0 where
   pub roll_room : roll'.room ≡ roll.room
-  pub each_standing : length roll'.standings ≡ callers
-  pub each_caller : length roll'.bookings ≡ callers
-  pub standings : (caller : ℕ) → caller < callers → standing_of roll' caller ≡ standing_by (has_enrolled (H ++ x ∷ []) caller) (has_left (H ++ x ∷ []) caller)
-  pub bookings : (caller : ℕ) → caller < callers → AreBookingsOf (H ++ x ∷ []) caller (bookings_of roll' caller)
+  pub each_standing : length roll'.standings ≡ CALLERS
+  pub each_caller : length roll'.bookings ≡ CALLERS
+  pub standings : (caller : ℕ) → caller < CALLERS → standing_of roll' caller ≡ standing_by (has_enrolled (H ++ x ∷ []) caller) (has_left (H ++ x ∷ []) caller)
+  pub bookings : (caller : ℕ) → caller < CALLERS → AreBookingsOf (H ++ x ∷ []) caller (bookings_of roll' caller)
   pub stock : inventory' ≡ inventory_of h (H ++ x ∷ [])
   pub forecasts_are : forecasts' ≡ map (forecast_of h (H ++ x ∷ [])) (numbers (length h.stays))
   pub rates_are : rates' ≡ map (rate_of h (H ++ x ∷ [])) (numbers (length h.stays))

@@ -9,9 +9,11 @@ use Rattle.bp_types.specs.declared.command.Command.TheVariants.{Book, Cancel, Re
 use Rattle.bp_types.specs.Claim.{Claim}
 use Rattle.bp_types.specs.Displacement.{night_span}
 use Rattle.bp_types.specs.Program.{no_stay}
-use Rattle.bp_types.specs.Limits.{most_forecast}
 use Rattle.bp_types.specs.House.{Inn, IsHouse}
 use Rattle.bp_types.proofs.Spans.{covers_inside}
+use Rattle.bp_types.specs.Spans.{first_short}
+use Rattle.bp_types.specs.Changes.{Leads}
+use Rattle.bp_types.specs.declared.limits.TheConstants.{MOST_FORECAST}
 use Rattle.bp_ledger.specs.Inventory.{taken}
 use Rattle.bp_core.specs.declared.line.Act.{Act}
 use Rattle.bp_core.specs.declared.line.Act.TheVariants.{Do, Publish, Enrol, Leave}
@@ -20,11 +22,10 @@ use Rattle.bp_core.specs.declared.line.Reply.TheVariants.{Cancelled, Done, Group
 use Rattle.bp_core.specs.declared.line.Line.{Line}
 use Rattle.bp_core.specs.Acting.{plain_line}
 use Rattle.bp_core.specs.Lines.{History, is_accepted, is_book_by, is_cancelled, is_done, is_group_accepted}
-use Rattle.bp_core.specs.Instance.{span_of, rooms_at, sold_at, left_at, first_without, forecast_of, instance_of}
+use Rattle.bp_core.specs.Instance.{span_of, rooms_at, sold_at, left_at, forecast_of, instance_of}
 use Rattle.bp_core.specs.Changes.{is_change, deltas_of}
 use Rattle.bp_core.specs.Legal.{IsLegal, IsLegalLine}
 use Rattle.bp_core.specs.Keeping.{inventory_of}
-use Rattle.bp_core.specs.Leading.{Leads}
 use Rattle.bp_core.proofs.Booked.{forecast_booked, deltas_booked, deltas_refused, stock_booked, stock_refused}
 use Rattle.bp_core.proofs.Cancelling.{filter_stands, stock_released, stock_has_sold, held_in_range, held_span}
 use Rattle.bp_core.proofs.Cases.{enough_on}
@@ -61,7 +62,7 @@ leads_by h H x changes is leads =
 silent_leads : (h : Inn) (H : History) (x : Line) → is_change x ≡ false → [] ≡ deltas_of h H x → LineLeads h H x
 silent_leads h H x silent none = leads_by h H x [] none (leads_none _ _ (instance_kept h H x silent))
 
-taken_moves : (h : Inn) (H G : History) (span : Span) (k : ℕ) → IsHouse h → IsSound h G → span.from < span.to → span.to ≤ length h.rooms → taken (inventory_of h H) span k ≡ inventory_of h G → first_without h H span k ≡ None → MovesRooms h H G span false k
+taken_moves : (h : Inn) (H G : History) (span : Span) (k : ℕ) → IsHouse h → IsSound h G → span.from < span.to → span.to ≤ length h.rooms → taken (inventory_of h H) span k ≡ inventory_of h G → first_short (left_at h H) span k ≡ None → MovesRooms h H G span false k
 taken_moves h H G span k house after ordered within is none = record {
   ordered = ordered;
   within = within;
@@ -80,7 +81,7 @@ book_leads h H caller stay reply stands =
     let within : stay < length h.stays = ltb-true _ _ stands.line.range in
     let spans = stands.house.instance.spans stay no_stay within in
     let value : ℕ = forecast_of h G stay in
-    let small : forecast_of h G stay ≤ most_forecast = omega (arith, stands.after.counts stay within) in
+    let small : forecast_of h G stay ≤ MOST_FORECAST = omega (arith, stands.after.counts stay within) in
     let rates = λ (j : ℕ). rate_kept h H x j refl in
     let others = λ (j : ℕ). λ (ne : j ≡ stay → ⊥). forecast_kept h H x j refl (other_number stay j ne) in
     let less = forecast_booked h H caller stay reply in

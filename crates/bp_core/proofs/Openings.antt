@@ -6,6 +6,8 @@ use Rattle.std.proofs.lemmas.List.FromFn.{fill_by_all}
 use Rattle.bp_types.specs.declared.stay.Stay.{Stay}
 use Rattle.bp_types.specs.Program.{Program, no_stay}
 use Rattle.bp_types.specs.House.{Inn, IsHouse, opening, units_left}
+use Rattle.bp_types.specs.Claim.{IsCertificateOf}
+use Rattle.bp_types.specs.declared.limits.TheConstants.{CALLERS}
 use Rattle.bp_board.specs.Posted.{Posted}
 use Rattle.bp_ledger.specs.Inventory.{Inventory}
 use Rattle.bp_core.specs.declared.line.Line.{Line}
@@ -14,9 +16,9 @@ use Rattle.bp_core.specs.declared.roll.Booking.{Booking}
 use Rattle.bp_core.specs.Acting.{opening_line}
 use Rattle.bp_core.specs.Lines.{no_line}
 use Rattle.bp_core.specs.Instance.{rooms_at, sold_at, forecast_of, rate_of, stay_now, units_left_at, instance_of}
-use Rattle.bp_core.specs.Legal.{IsLegal, IsLegalLine, IsCertificateOf}
+use Rattle.bp_core.specs.Legal.{IsLegal, IsLegalLine}
 use Rattle.bp_core.specs.Log.{Logged}
-use Rattle.bp_core.specs.Roll.{Kept, callers}
+use Rattle.bp_core.specs.Roll.{Kept}
 use Rattle.bp_core.specs.Keeping.{IsKept, numbers, inventory_of, entry_room, AreBookingsOf}
 use Rattle.bp_core.proofs.Counts.{and_false}
 use Rattle.bp_core.proofs.Effects.{numbers_same}
@@ -84,7 +86,7 @@ no_bookings board k = record {
 -- each part of the book as it opens
 pub opening_is_kept : (h : Inn) (log : Logged) (roll : Kept) (inventory : Inventory) (forecasts rates : List ℕ) (board : Posted) → IsHouse h → board.position ≡ 0 → IsCertificateOf (opening h) board.certificate →
     log ≡ record { lines = opening_line board ∷ []; deltas = [] ∷ []; line_room = entry_room h; board_room = h.limits.publications } →
-    roll ≡ record { standings = replicate callers New; bookings = replicate callers []; room = h.limits.entries } →
+    roll ≡ record { standings = replicate CALLERS New; bookings = replicate CALLERS []; room = h.limits.entries } →
     inventory ≡ record { rooms = h.rooms; sold = h.sold } → forecasts ≡ map (λ (s : Stay). s.forecast) h.stays → rates ≡ map (λ (s : Stay). s.rate) h.stays → IsKept h log roll inventory forecasts rates
 opening_is_kept h log roll inventory forecasts rates board is at certifies log_is roll_is inventory_is forecasts_are rates_are =
     let x : Line = opening_line board in
@@ -98,10 +100,10 @@ opening_is_kept h log roll inventory forecasts rates board is at certifies log_i
       line_room = refl;
       board_room = refl;
       roll_room = refl;
-      each_standing = length-replicate callers New;
-      each_caller = length-replicate {A = List Booking} callers [];
-      standings = λ k small. get_or-replicate callers k New New small ∙ sym (rw (and_false (0 == k)) refl);
-      bookings = λ k small. let R : List Booking → Type 0 = λ l. AreBookingsOf (x ∷ []) k l in subst R (sym (get_or-replicate callers k [] [] small)) (no_bookings board k);
+      each_standing = length-replicate CALLERS New;
+      each_caller = length-replicate {A = List Booking} CALLERS [];
+      standings = λ k small. get_or-replicate CALLERS k New New small ∙ sym (rw (and_false (0 == k)) refl);
+      bookings = λ k small. let R : List Booking → Type 0 = λ l. AreBookingsOf (x ∷ []) k l in subst R (sym (get_or-replicate CALLERS k [] [] small)) (no_bookings board k);
       stock = inventory_is ∙ stock_at_start h is ∙ quiet_stock h [] x quiet;
       forecasts_are = forecasts_are ∙ forecasts_at_start h ∙ quiet_forecasts h [] x quiet (λ j. refl);
       rates_are = rates_are ∙ rates_at_start h ∙ quiet_rates h [] x (λ j. refl);

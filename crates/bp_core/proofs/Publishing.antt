@@ -2,6 +2,7 @@
 use Rattle.std.proofs.Common.{◌≡◌, ℕ, ◌<◌, ◌≤◌, refl, ap, ◌∙◌, arith, ◌==◌, ◌||◌, IsTrue, List, length, inl, inr}
 use Rattle.std.proofs.lemmas.Bool.{cases_lt, lt-ltb, le-leb, and_from}
 use Rattle.bp_types.specs.House.{Inn}
+use Rattle.bp_types.specs.Claim.{IsCertificateOf}
 use Rattle.bp_board.specs.Posted.{Posted}
 use Rattle.bp_ledger.specs.Inventory.{Inventory}
 use Rattle.bp_core.specs.declared.line.Act.TheVariants.{Publish}
@@ -10,7 +11,7 @@ use Rattle.bp_core.specs.Lines.{History, vectors, last_position}
 use Rattle.bp_core.specs.Callers.{may_log}
 use Rattle.bp_core.specs.Changes.{changes_between}
 use Rattle.bp_core.specs.Instance.{instance_at}
-use Rattle.bp_core.specs.Legal.{IsLegal, IsLegalLine, IsCertificateOf}
+use Rattle.bp_core.specs.Legal.{IsLegal, IsLegalLine}
 use Rattle.bp_core.specs.Log.{Logged, published_line}
 use Rattle.bp_core.specs.Roll.{Kept}
 use Rattle.bp_core.specs.Keeping.{IsKept}

@@ -8,9 +8,9 @@ use Rattle.bp_types.specs.declared.stay.Stay.{Stay}
 use Rattle.bp_types.specs.declared.command.Command.TheVariants.{Book, Cancel, Reforecast, Reprice, Resize, Group}
 use Rattle.bp_types.specs.Claim.{Claim}
 use Rattle.bp_types.specs.Program.{covers, no_stay}
-use Rattle.bp_types.specs.Limits.{most_rooms, most_forecast}
-use Rattle.bp_types.specs.House.{Inn, IsHouse, most_house_rooms}
+use Rattle.bp_types.specs.House.{Inn, IsHouse}
 use Rattle.bp_types.proofs.HouseLemmas.{unit_is_small}
+use Rattle.bp_types.specs.declared.limits.TheConstants.{MOST_FORECAST, MOST_UNITS, MOST_ROOMS}
 use Rattle.bp_core.specs.declared.line.Act.{Act}
 use Rattle.bp_core.specs.declared.line.Act.TheVariants.{Do, Publish, Enrol, Leave}
 use Rattle.bp_core.specs.declared.line.Reply.{Reply}
@@ -86,9 +86,9 @@ sells_what_is_left h H n caller Leave reply certificate replies below =
 -- what holds at each position of a legal history
 pub record IsSound (h : Inn) (H : History) : Type 0 where
   pub sold : (n : ℕ) → n < length h.rooms → sold_at h H n ≤ rooms_at h H n
-  pub rooms : (n : ℕ) → n < length h.rooms → rooms_at h H n ≤ most_house_rooms
+  pub rooms : (n : ℕ) → n < length h.rooms → rooms_at h H n ≤ MOST_ROOMS
   pub rates : (j : ℕ) → j < length h.stays → IsRate (rate_of h H j)
-  pub counts : (j : ℕ) → j < length h.stays → last_value (λ (x : Line). reforecast_count j x.entry.act) (house_stay h j).forecast H ≤ most_forecast
+  pub counts : (j : ℕ) → j < length h.stays → last_value (λ (x : Line). reforecast_count j x.entry.act) (house_stay h j).forecast H ≤ MOST_FORECAST
 
 sound_at_start : (h : Inn) → IsHouse h → IsSound h []
 sound_at_start h is = record {
@@ -98,7 +98,7 @@ sound_at_start h is = record {
   counts = λ j g. is.instance.forecasts j no_stay g;
 }
 
-rooms_stay_small : (h : Inn) (H : History) (n : ℕ) (x : Line) → IsTrue (is_in_range h x.entry.act) → rooms_at h H n ≤ most_house_rooms → rooms_at h (H ++ x ∷ []) n ≤ most_house_rooms
+rooms_stay_small : (h : Inn) (H : History) (n : ℕ) (x : Line) → IsTrue (is_in_range h x.entry.act) → rooms_at h H n ≤ MOST_ROOMS → rooms_at h (H ++ x ∷ []) n ≤ MOST_ROOMS
 rooms_stay_small h H n x range before =
     rw (last_value-push (resized_rooms n) (slice_index h.rooms n) H x)
     (elim (cases_Option (resized_rooms n x)) [
@@ -115,8 +115,8 @@ rates_stay_rates h H j x range before =
       | inr (r, some) ↦ let e : r ≡ unwrap_or (rate x) (rate_of h H j) = ap (λ o. unwrap_or o (rate_of h H j)) (sym some) in subst IsRate e (rate_in_range h j x.entry.act r range some)
     ])
 
-counts_stay_small : (h : Inn) (j d : ℕ) (H : History) (x : Line) → IsTrue (is_in_range h x.entry.act) → last_value (λ (y : Line). reforecast_count j y.entry.act) d H ≤ most_forecast →
-    last_value (λ (y : Line). reforecast_count j y.entry.act) d (H ++ x ∷ []) ≤ most_forecast
+counts_stay_small : (h : Inn) (j d : ℕ) (H : History) (x : Line) → IsTrue (is_in_range h x.entry.act) → last_value (λ (y : Line). reforecast_count j y.entry.act) d H ≤ MOST_FORECAST →
+    last_value (λ (y : Line). reforecast_count j y.entry.act) d (H ++ x ∷ []) ≤ MOST_FORECAST
 counts_stay_small h j d H x range before =
     let count : Line → Option ℕ = λ y. reforecast_count j y.entry.act in
     rw (last_value-push count d H x)
@@ -139,7 +139,7 @@ sound_more h H x sound legal = record {
 pub sound_at : (h : Inn) (H : History) (n : ℕ) → IsHouse h → IsLegal h H → n ≤ length H → IsSound h (take n H)
 sound_at h H n is legal within = at_each_position h (IsSound h) (sound_at_start h is) (λ G x sound line. sound_more h G x sound line) H legal n within
 
-pub units_stay_small : (h : Inn) (H : History) (n : ℕ) → IsHouse h → IsSound h H → n < length h.rooms → units_left_at h H n ≤ most_rooms
+pub units_stay_small : (h : Inn) (H : History) (n : ℕ) → IsHouse h → IsSound h H → n < length h.rooms → units_left_at h H n ≤ MOST_UNITS
 units_stay_small h H n is sound g =
     let unit = unit_is_small h.limits.unit is.unit in
     let left : left_at h H n ≤ 10000 = omega (arith, sound.rooms n g) in

@@ -9,10 +9,11 @@ use Rattle.bp_types.specs.Rooms.{moved, rooms_moved}
 use Rattle.bp_types.specs.House.{Inn}
 use Rattle.bp_types.proofs.Firsts.{none_passes}
 use Rattle.bp_types.proofs.RoomLemmas.{length-rooms_moved, rooms_moved-at}
-use Rattle.bp_ledger.specs.Inventory.{left_on, is_short, first_short, HasLeft}
+use Rattle.bp_types.specs.Spans.{first_short}
+use Rattle.bp_ledger.specs.Inventory.{left_on, HasLeft}
 use Rattle.bp_core.specs.declared.line.Line.{Line}
 use Rattle.bp_core.specs.Lines.{History}
-use Rattle.bp_core.specs.Instance.{rooms_at, sold_at, left_at, resized_rooms, first_without}
+use Rattle.bp_core.specs.Instance.{rooms_at, sold_at, left_at, resized_rooms}
 use Rattle.bp_core.specs.Keeping.{inventory_of}
 use Rattle.bp_core.proofs.Pushes.{last_value-push}
 use Rattle.bp_core.proofs.Effects.{numbers_same}
@@ -46,12 +47,12 @@ pub left_of_stock : (h : Inn) (H : History) (n : ℕ) → n < length h.rooms →
 left_of_stock h H n within = ap (λ r. r - slice_index (inventory_of h H).sold n) (rooms_of_stock h H n within) ∙ ap (λ s. rooms_at h H n - s) (sold_of_stock h H n within)
 
 -- the ledger finds the first night without rooms
-pub first_of_stock : (h : Inn) (H : History) (span : Span) (units : ℕ) → span.from < span.to → span.to ≤ length h.rooms → first_short (inventory_of h H) span units ≡ first_without h H span units
+pub first_of_stock : (h : Inn) (H : History) (span : Span) (units : ℕ) → span.from < span.to → span.to ≤ length h.rooms → first_short (left_on (inventory_of h H)) span units ≡ first_short (left_at h H) span units
 first_of_stock h H span units ordered within =
-    find-same (is_short (inventory_of h H) units) (λ n. nat_lt (left_at h H n) units) span.from (span.to - span.from) (λ n above below. ap (λ l. nat_lt l units) (left_of_stock h H n (omega arith)))
+    find-same (λ n. nat_lt (left_on (inventory_of h H) n) units) (λ n. nat_lt (left_at h H n) units) span.from (span.to - span.from) (λ n above below. ap (λ l. nat_lt l units) (left_of_stock h H n (omega arith)))
 
 -- where no night is without rooms, the ledger has them
-pub stock_has_left : (h : Inn) (H : History) (span : Span) (units : ℕ) → span.to ≤ length h.rooms → first_without h H span units ≡ None → HasLeft (inventory_of h H) span units
+pub stock_has_left : (h : Inn) (H : History) (span : Span) (units : ℕ) → span.to ≤ length h.rooms → first_short (left_at h H) span units ≡ None → HasLeft (inventory_of h H) span units
 stock_has_left h H span units within none n above below =
     let enough : units ≤ left_at h H n = ltb-false _ _ (none_passes (λ k. nat_lt (left_at h H k) units) span.from (span.to - span.from) none n above (omega arith)) in
     omega (arith, enough, left_of_stock h H n (omega arith))

@@ -4,9 +4,10 @@ use Rattle.std.specs.Arc.{arc_value}
 use Rattle.bp_types.specs.declared.command.Command.{Command}
 use Rattle.bp_types.specs.declared.command.Command.TheVariants.{Book, Group}
 use Rattle.bp_types.specs.declared.command.Quoted.{Quoted}
-use Rattle.bp_types.specs.Claim.{Claim}
+use Rattle.bp_types.specs.Claim.{Claim, IsCertificateOf}
 use Rattle.bp_types.specs.Displacement.{IsDisplacement}
 use Rattle.bp_types.specs.House.{Inn}
+use Rattle.bp_types.specs.Spans.{first_short}
 use Rattle.bp_board.specs.Posted.{Posted}
 use Rattle.bp_core.specs.Log.{published_line}
 use Rattle.bp_core.specs.declared.line.Act.{Act}
@@ -19,10 +20,10 @@ use Rattle.bp_core.specs.declared.call.Answer.{Answer}
 use Rattle.bp_core.specs.declared.call.Answer.TheVariants.{Logged, HistoryFull, Behind, Unquoted, Stale, Superseded, PublicationsFull}
 use Rattle.bp_core.specs.Lines.{History, commands, vectors, last_position}
 use Rattle.bp_core.specs.Callers.{may_log}
-use Rattle.bp_core.specs.Instance.{first_without, instance_at}
+use Rattle.bp_core.specs.Instance.{instance_at, left_at}
 use Rattle.bp_core.specs.Changes.{changes_between, changes_after}
 use Rattle.bp_core.specs.Answer.{IsReply}
-use Rattle.bp_core.specs.Legal.{is_in_range, IsCertificateOf}
+use Rattle.bp_core.specs.Legal.{is_in_range}
 
 -- what contracts see of a book
 pub record Diary : Type 0 where
@@ -83,7 +84,7 @@ abbrev pub command_refusal : Inn → History → Command → Option Quoted → O
 command_refusal h H (Book stay) quoted =
     refuse_if (nat_le h.limits.stale_after (changes_after H (last_position H))) (Behind (last_position H) (changes_after H (last_position H)))
 command_refusal h H (Group span rooms amount) quoted =
-    if is_some (first_without h H span rooms) then None else quote_refusal H quoted
+    if is_some (first_short (left_at h H) span rooms) then None else quote_refusal H quoted
 command_refusal h H _ quoted = None
 
 -- the refusal of a vector for a position

@@ -1,7 +1,8 @@
 -- Who may act: the opener always, and who has enrolled and not left.
-use Rattle.std.specs.Prelude.{ℕ, Bool, true, false, not, ◌&&◌, ◌||◌, ◌==◌, count_by}
+use Rattle.std.specs.Prelude.{ℕ, ◌-◌, Bool, true, false, not, ◌&&◌, ◌||◌, ◌==◌, count_by}
 use Rattle.std.specs.List.{list_any, range_with_len}
 use Rattle.bp_types.specs.House.{is_from_one}
+use Rattle.bp_types.specs.declared.limits.TheConstants.{CALLERS}
 use Rattle.bp_core.specs.declared.line.Act.{Act}
 use Rattle.bp_core.specs.declared.line.Act.TheVariants.{Enrol, Leave}
 use Rattle.bp_core.specs.declared.line.Line.{Line}
@@ -9,7 +10,7 @@ use Rattle.bp_core.specs.Lines.{History, is_by}
 
 -- the greatest number of a caller
 abbrev pub greatest_caller : ℕ
-greatest_caller = 63
+greatest_caller = CALLERS - 1
 
 abbrev pub is_enrol : Act → Bool
 is_enrol Enrol = true

@@ -1,13 +1,12 @@
 -- The rooms, rooms sold, forecasts and rates after a history, and the linear program that they make.
-use Rattle.std.specs.Prelude.{ℕ, ◌+◌, ◌*◌, ◌-◌, Bool, not, ◌&&◌, ◌==◌, nat_lt, if◌then◌else◌, length, map, take, drop, count_by, slice_index, slice_index_or, Option, Some, None, is_some, unwrap_or}
-use Rattle.std.specs.List.{find, list_any, range_with_len, sum_by}
+use Rattle.std.specs.Prelude.{ℕ, ◌+◌, ◌*◌, ◌-◌, Bool, not, ◌&&◌, ◌==◌, if◌then◌else◌, length, map, take, drop, count_by, slice_index, slice_index_or, Option, Some, None, is_some, unwrap_or}
+use Rattle.std.specs.List.{list_any, range_with_len, sum_by}
 use Rattle.bp_types.specs.declared.stay.Span.{Span}
 use Rattle.bp_types.specs.declared.stay.Stay.{Stay}
 use Rattle.bp_types.specs.declared.command.Command.TheVariants.{Reforecast, Reprice, Resize, Group}
 use Rattle.bp_types.specs.Sums.{sum_below}
 use Rattle.bp_types.specs.Program.{Program, no_stay, covers}
 use Rattle.bp_types.specs.House.{Inn}
-use Rattle.bp_ledger.specs.Inventory.{nights_of}
 use Rattle.bp_core.specs.declared.line.Act.{Act}
 use Rattle.bp_core.specs.declared.line.Act.TheVariants.{Do}
 use Rattle.bp_core.specs.declared.line.Line.{Line}
@@ -71,10 +70,6 @@ sold_at h H n =
 -- the rooms left on a night
 abbrev pub left_at : Inn → History → ℕ → ℕ
 left_at h H n = rooms_at h H n - sold_at h H n
-
--- the first night of a span with fewer rooms left
-abbrev pub first_without : Inn → History → Span → ℕ → Option ℕ
-first_without h H span rooms = find (λ n. nat_lt (left_at h H n) rooms) (nights_of span)
 
 -- the count that a Reforecast sets for a stay
 abbrev pub reforecast_count : ℕ → Act → Option ℕ

@@ -2,6 +2,7 @@
 use Rattle.std.specs.Prelude.{◌≡◌, ℕ, ◌+◌, ◌<◌, Bool, true, false, List, length, map, count_by, slice_get, Some}
 use Rattle.std.specs.List.{list_any, range_with_len}
 use Rattle.bp_types.specs.House.{Inn, IsHouse}
+use Rattle.bp_types.specs.declared.limits.TheConstants.{CALLERS}
 use Rattle.bp_ledger.specs.Inventory.{Inventory}
 use Rattle.bp_core.specs.declared.line.Line.{Line}
 use Rattle.bp_core.specs.declared.roll.Standing.{Standing}
@@ -15,7 +16,7 @@ use Rattle.bp_core.specs.Instance.{rooms_at, sold_at, forecast_of, rate_of}
 use Rattle.bp_core.specs.Changes.{deltas_at}
 use Rattle.bp_core.specs.Legal.{IsLegal}
 use Rattle.bp_core.specs.Log.{Logged}
-use Rattle.bp_core.specs.Roll.{Kept, callers, standing_of, bookings_of}
+use Rattle.bp_core.specs.Roll.{Kept, standing_of, bookings_of}
 
 -- the numbers of the nights, or of the stays
 abbrev pub numbers : ℕ → List ℕ
@@ -62,10 +63,10 @@ pub record IsKept (h : Inn) (log : Logged) (roll : Kept) (inventory : Inventory)
   pub line_room : log.line_room ≡ entry_room h
   pub board_room : log.board_room ≡ h.limits.publications
   pub roll_room : roll.room ≡ h.limits.entries
-  pub each_standing : length roll.standings ≡ callers
-  pub each_caller : length roll.bookings ≡ callers
-  pub standings : (caller : ℕ) → caller < callers → standing_of roll caller ≡ standing_by (has_enrolled log.lines caller) (has_left log.lines caller)
-  pub bookings : (caller : ℕ) → caller < callers → AreBookingsOf log.lines caller (bookings_of roll caller)
+  pub each_standing : length roll.standings ≡ CALLERS
+  pub each_caller : length roll.bookings ≡ CALLERS
+  pub standings : (caller : ℕ) → caller < CALLERS → standing_of roll caller ≡ standing_by (has_enrolled log.lines caller) (has_left log.lines caller)
+  pub bookings : (caller : ℕ) → caller < CALLERS → AreBookingsOf log.lines caller (bookings_of roll caller)
   pub stock : inventory ≡ inventory_of h log.lines
   pub forecasts_are : forecasts ≡ map (forecast_of h log.lines) (numbers (length h.stays))
   pub rates_are : rates ≡ map (rate_of h log.lines) (numbers (length h.stays))

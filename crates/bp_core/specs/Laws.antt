@@ -2,6 +2,8 @@
 use Rattle.std.specs.Prelude.{◌≡◌, ℕ, ◌<◌, ◌≤◌, List, length, take}
 use Rattle.bp_types.specs.Limits.{IsWithinLimits}
 use Rattle.bp_types.specs.House.{Inn, IsHouse, opening}
+use Rattle.bp_types.specs.Changes.{Leads}
+use Rattle.bp_types.specs.Claim.{IsCertificateOf}
 use Rattle.bp_board.specs.Posted.{Posted}
 use Rattle.bp_core.specs.declared.call.Answer.{Answer}
 use Rattle.bp_core.specs.declared.calls.Made.{Made}
@@ -10,8 +12,7 @@ use Rattle.bp_core.specs.Calls.{MayMakeAll, AreAnswered, opened_by}
 use Rattle.bp_core.specs.Lines.{History}
 use Rattle.bp_core.specs.Instance.{rooms_at, sold_at, instance_of, instance_at}
 use Rattle.bp_core.specs.Changes.{deltas_between}
-use Rattle.bp_core.specs.Legal.{IsLegal, IsCertificateOf}
-use Rattle.bp_core.specs.Leading.{Leads}
+use Rattle.bp_core.specs.Legal.{IsLegal}
 
 -- each prefix of a legal history that is not empty is legal
 abbrev pub PrefixesAreLegal : Type 0

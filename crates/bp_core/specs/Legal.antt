@@ -2,12 +2,11 @@
 use Rattle.std.specs.Prelude.{◌≡◌, ℕ, ◌<◌, ◌≤◌, Bool, true, false, ◌&&◌, ◌||◌, ◌==◌, nat_lt, nat_le, IsTrue, length, take, Option, Some, None}
 use Rattle.bp_types.specs.declared.command.Command.{Command}
 use Rattle.bp_types.specs.declared.command.Command.TheVariants.{Book, Cancel, Reforecast, Reprice, Resize, Group}
-use Rattle.bp_types.specs.Claim.{Claim}
-use Rattle.bp_types.specs.Program.{Program}
+use Rattle.bp_types.specs.Claim.{Claim, IsCertificateOf}
 use Rattle.bp_types.specs.Spans.{is_within}
-use Rattle.bp_types.specs.Limits.{is_rate, most_forecast}
-use Rattle.bp_types.specs.Optimum.{Certifies}
-use Rattle.bp_types.specs.House.{Inn, is_from_one, most_house_rooms, most_entries}
+use Rattle.bp_types.specs.Limits.{is_rate}
+use Rattle.bp_types.specs.House.{Inn, is_from_one}
+use Rattle.bp_types.specs.declared.limits.TheConstants.{MOST_FORECAST, MOST_ROOMS, MOST_ENTRIES, MOST_GROUP_ROOMS, MOST_AMOUNT}
 use Rattle.bp_core.specs.declared.line.Act.{Act}
 use Rattle.bp_core.specs.declared.line.Act.TheVariants.{Do, Publish, Enrol, Leave}
 use Rattle.bp_core.specs.declared.line.Line.{Line}
@@ -17,23 +16,15 @@ use Rattle.bp_core.specs.Instance.{instance_at}
 use Rattle.bp_core.specs.Changes.{changes_between, changes_after}
 use Rattle.bp_core.specs.Answer.{IsReply}
 
--- rooms of a group, at most
-abbrev pub most_group_rooms : ℕ
-most_group_rooms = 10000
-
--- the amount of a group, at most, in minor units of money
-abbrev pub most_amount : ℕ
-most_amount = 1000000000000000
-
 -- the numbers of a command are within their limits
 abbrev pub is_command_in_range : Inn → Command → Bool
 is_command_in_range h (Book stay) = nat_lt stay (length h.stays)
-is_command_in_range h (Cancel nth) = is_from_one most_entries nth
-is_command_in_range h (Reforecast stay count) = nat_lt stay (length h.stays) && nat_le count most_forecast
+is_command_in_range h (Cancel nth) = is_from_one MOST_ENTRIES nth
+is_command_in_range h (Reforecast stay count) = nat_lt stay (length h.stays) && nat_le count MOST_FORECAST
 is_command_in_range h (Reprice stay rate) = nat_lt stay (length h.stays) && is_rate rate
-is_command_in_range h (Resize night rooms) = nat_lt night (length h.rooms) && nat_le rooms most_house_rooms
+is_command_in_range h (Resize night rooms) = nat_lt night (length h.rooms) && nat_le rooms MOST_ROOMS
 is_command_in_range h (Group span rooms amount) =
-    is_within (length h.rooms) span && (is_from_one most_group_rooms rooms && nat_le amount most_amount)
+    is_within (length h.rooms) span && (is_from_one MOST_GROUP_ROOMS rooms && nat_le amount MOST_AMOUNT)
 
 -- the numbers of an act are within their limits
 abbrev pub is_in_range : Inn → Act → Bool
@@ -65,10 +56,6 @@ abbrev pub is_newer : History → Act → Bool
 is_newer H (Publish position) =
     (length H == 0) || (nat_le position (length H) && nat_le 1 (changes_between H (last_position H) position))
 is_newer H _ = true
-
--- the claim certifies the program
-abbrev pub IsCertificateOf : Program → Claim → Type 0
-IsCertificateOf p c = Certifies p c.value c.sell c.prices
 
 -- a Publish has a certificate for the instance at its position, and no other act has one
 abbrev pub IsCertified : Inn → History → Act → Option Claim → Type 0

@@ -6,7 +6,6 @@ pub mod Answer
 pub mod Legal
 pub mod Acting
 pub mod Calls
-pub mod Leading
 pub mod Laws
 pub mod Staying
 pub mod Counting

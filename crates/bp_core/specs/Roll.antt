@@ -12,10 +12,6 @@ pub record Kept : Type 0 where
   pub bookings : List (List Booking)
   pub room : ℕ
 
--- how many numbers of callers there are, the opener's among them
-abbrev pub callers : ℕ
-callers = 64
-
 -- the standing of a caller
 abbrev pub standing_of : Kept → ℕ → Standing
 standing_of k caller = slice_index_or k.standings caller New

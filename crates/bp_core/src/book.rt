@@ -3,19 +3,21 @@ ghost use Rattle.std.specs.Option.{option_map};
 ghost use Rattle.std.specs.Arc.{arc_value};
 ghost use Rattle.bp_types.specs.declared.stay.Stay.{Stay};
 ghost use Rattle.bp_types.specs.House.{opening, IsHouse};
+ghost use Rattle.bp_types.specs.Spans.{first_short};
+ghost use Rattle.bp_types.specs.Changes.{Leads};
+ghost use Rattle.bp_types.specs.Claim.{IsCertificateOf};
 ghost use Rattle.bp_core.specs.declared.line.Line.{Line};
 ghost use Rattle.bp_board.specs.Posted.{Posted};
 ghost use Rattle.bp_core.specs.Lines.{published_position, is_accepted, has_given_up, commands, vectors, certificate_at, boards, last_number, last_position, last_prices};
 ghost use Rattle.bp_core.specs.Callers.{greatest_caller, may_act, may_enrol, may_log, left_of};
-ghost use Rattle.bp_core.specs.Instance.{rooms_at, sold_at, first_without, forecast_of, rate_of, instance_at};
+ghost use Rattle.bp_core.specs.Instance.{rooms_at, sold_at, forecast_of, rate_of, instance_at, left_at};
 ghost use Rattle.bp_core.specs.Changes.{changes_between, changes_after, deltas_between, resize_delta};
 ghost use Rattle.bp_core.specs.Answer.{book_reply};
-ghost use Rattle.bp_core.specs.Legal.{IsLegal, IsCertificateOf};
+ghost use Rattle.bp_core.specs.Legal.{IsLegal};
 ghost use Rattle.bp_core.specs.Deltas.{delta_list};
 ghost use Rattle.bp_core.specs.Laws.{KeepsLimits};
 ghost use Rattle.bp_core.specs.Log.{published_number};
 ghost use Rattle.bp_core.specs.Roll.{was_given_up};
-ghost use Rattle.bp_core.specs.Leading.{Leads};
 ghost use Rattle.bp_core.specs.Held.{IsHeld};
 ghost use Rattle.bp_core.specs.Acting.{Diary, MayCall, MayDo, IsQuoteFor, IsQuoteRight, IsAnswered, IsDone, opening_line, plain_line};
 
@@ -25,6 +27,7 @@ use crate::roll::{Booking, Fate, Roll, Standing};
 use crate::{Act, Answer, Call, Entry, Reply};
 use bp_board::Board;
 use bp_ledger::Ledger;
+use bp_types::limits::{CALLERS, HUNDREDTHS, MOST_NIGHTS, MOST_ROOMS};
 use bp_types::{Certificate, Change, Command, House, Memory, Quoted, Span};
 use std::alloc::Global;
 use std::marker::Model;
@@ -55,7 +58,7 @@ impl Model for Book {
 }
 
 /// The number of the greatest caller.
-const MOST_CALLERS: u32 = 63;
+const MOST_CALLERS: u32 = CALLERS as u32 - 1;
 
 impl Book {
     /// The book of a house that opens with a vector, by caller 0 at position 0. All its room is taken here.
@@ -333,7 +336,7 @@ impl Book {
         quote: Quoted,
     ) -> Answer
         requires may { MayDo self.old caller (Command.Group span rooms amount) }
-        requires rooms { first_without self.old.house self.old.history span rooms ≡ None }
+        requires rooms { first_short (left_at self.old.house self.old.history) span rooms ≡ None }
         requires right { IsQuoteFor self.old.house self.old.history (Command.Group span rooms amount) quote }
         ensures { IsDone self.old self.new caller (Command.Group span rooms amount) (Some quote) result }
     {
@@ -685,10 +688,10 @@ fn logged(log: &mut Log, caller: u32, act: Act, reply: Reply, deltas: Deltas) ->
 
 /// By how many units the rooms of a night move.
 fn resize_delta(unit: u64, night: u32, old: u64, new: u64) -> Change
-    requires unit { unit ≤ 100 }
-    requires old { old ≤ 10000 }
-    requires new { new ≤ 10000 }
-    requires night { night < 400 }
+    requires unit { unit ≤ HUNDREDTHS }
+    requires old { old ≤ MOST_ROOMS }
+    requires new { new ≤ MOST_ROOMS }
+    requires night { night < MOST_NIGHTS }
     ensures { result ≡ resize_delta unit night old new }
 {
     let span = Span {

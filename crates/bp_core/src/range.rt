@@ -1,20 +1,13 @@
 ghost use Rattle.std.specs.Prelude.{◌≡◌};
 ghost use Rattle.bp_types.specs.House.{is_from_one};
-ghost use Rattle.bp_types.specs.Limits.{is_within};
+ghost use Rattle.bp_types.specs.Spans.{is_within};
 ghost use Rattle.bp_core.specs.Legal.{is_in_range, is_command_in_range};
 
 use crate::Act;
+use bp_types::limits::{
+    MOST_AMOUNT, MOST_ENTRIES, MOST_FORECAST, MOST_GROUP_ROOMS, MOST_RATE, MOST_ROOMS,
+};
 use bp_types::{Command, House, Span};
-
-const MOST_ENTRIES: u64 = 200_000;
-
-const MOST_FORECAST: u64 = 1_000_000;
-
-const MOST_RATE: u64 = 1_000_000_000;
-
-const MOST_ROOMS: u64 = 10_000;
-
-const MOST_AMOUNT: u64 = 1_000_000_000_000_000;
 
 /// Whether the numbers of an act are within their limits, and its stay, night or span is one of the house.
 pub fn is_in_range(house: &House, act: Act) -> bool
@@ -41,7 +34,7 @@ fn is_command_in_range(house: &House, command: Command) -> bool
             amount,
         } => {
             is_within(house.nights(), span)
-                && is_from_one(MOST_ROOMS, rooms)
+                && is_from_one(MOST_GROUP_ROOMS, rooms)
                 && amount <= MOST_AMOUNT
         }
     }

@@ -1,11 +1,10 @@
 ghost use Rattle.std.specs.Prelude.{◌≡◌, ◌+◌, ◌-◌, ◌<◌, ◌≤◌, ◌++◌, ◌∷◌, [], Some, length, slice_get, slice_set, IfOk, replicate};
-ghost use Rattle.bp_core.specs.Roll.{Kept, callers, standing_of, is_new, is_present, is_gone, bookings_of, with_standing, with_bookings};
+ghost use Rattle.bp_core.specs.Roll.{Kept, standing_of, is_new, is_present, is_gone, bookings_of, with_standing, with_bookings};
 
 use bp_types::Memory;
+use bp_types::limits::CALLERS;
 use std::alloc::Global;
 use std::marker::Model;
-
-const CALLERS: usize = 64;
 
 /// What a caller has done of enrolling and leaving.
 #[derive(Clone, Copy, Debug, PartialEq, Eq)]
@@ -43,19 +42,20 @@ impl Model for Roll {
     ghost use Rattle.std.specs.declared.alloc.Global.{Global};
     ghost use Rattle.std.specs.declared.vec.Vec.{Vec};
     ghost use Rattle.bp_core.specs.declared.roll.Booking.{Booking};
-    ghost use Rattle.bp_core.specs.Roll.{Kept, callers};
+    ghost use Rattle.bp_types.specs.declared.limits.TheConstants.{CALLERS};
+    ghost use Rattle.bp_core.specs.Roll.{Kept};
 
     ghost Value = { Kept };
 
     ghost view = { λ r. record { standings = r.standings.items; bookings = map (λ (v : Vec Booking Global). v.items) r.bookings.items; room = r.room } };
 
-    ghost invariant = { λ r. (length r.standings.items ≡ callers) × (length r.bookings.items ≡ callers) × All (λ (v : Vec Booking Global). r.room ≤ vec_capacity v) r.bookings.items };
+    ghost invariant = { λ r. (length r.standings.items ≡ CALLERS) × (length r.bookings.items ≡ CALLERS) × All (λ (v : Vec Booking Global). r.room ≤ vec_capacity v) r.bookings.items };
 }
 
 impl Roll {
     /// The callers before any has an entry, with room for so many bookings of each.
     pub(crate) fn new(alloc: Global, room: usize) -> Result<Roll, Memory>
-        ensures { IfOk result (λ r. r ≡ record { standings = replicate callers Standing.New; bookings = replicate callers []; room = room }) }
+        ensures { IfOk result (λ r. r ≡ record { standings = replicate CALLERS Standing.New; bookings = replicate CALLERS []; room = room }) }
     {
         let mut standings = Vec::new(alloc);
         let mut bookings = Vec::new(alloc);
@@ -72,7 +72,7 @@ impl Roll {
 
     /// Whether a caller has no entry yet.
     pub(crate) fn is_new(&self, caller: u32) -> bool
-        requires { caller < callers }
+        requires { caller < CALLERS }
         ensures { result ≡ is_new (standing_of self.now caller) }
     {
         matches!(self.standings[caller as usize], Standing::New)
@@ -80,7 +80,7 @@ impl Roll {
 
     /// Whether a caller has enrolled and not left.
     pub(crate) fn is_present(&self, caller: u32) -> bool
-        requires { caller < callers }
+        requires { caller < CALLERS }
         ensures { result ≡ is_present (standing_of self.now caller) }
     {
         matches!(self.standings[caller as usize], Standing::Present)
@@ -88,7 +88,7 @@ impl Roll {
 
     /// Whether a caller has left.
     pub(crate) fn is_gone(&self, caller: u32) -> bool
-        requires { caller < callers }
+        requires { caller < CALLERS }
         ensures { result ≡ is_gone (standing_of self.now caller) }
     {
         matches!(self.standings[caller as usize], Standing::Gone)
@@ -96,7 +96,7 @@ impl Roll {
 
     /// Changes the standing of a caller.
     pub(crate) fn set_standing(&mut self, caller: u32, standing: Standing)
-        requires { caller < callers }
+        requires { caller < CALLERS }
         ensures { self.new ≡ with_standing self.old caller standing }
     {
         self.standings[caller as usize] = standing;
@@ -104,7 +104,7 @@ impl Roll {
 
     /// The nth booking of a caller, counted from 1, if there is one.
     pub(crate) fn booking(&self, caller: u32, nth: u64) -> Option<Booking>
-        requires caller { caller < callers }
+        requires caller { caller < CALLERS }
         requires from_one { 1 ≤ nth }
         ensures { result ≡ slice_get (bookings_of self.now caller) (nth - 1) }
     {
@@ -118,7 +118,7 @@ impl Roll {
 
     /// Adds a booking of a caller.
     pub(crate) fn add(&mut self, caller: u32, booking: Booking)
-        requires caller { caller < callers }
+        requires caller { caller < CALLERS }
         requires room { length (bookings_of self.old caller) < self.old.room }
         ensures { self.new ≡ with_bookings self.old caller (bookings_of self.old caller ++ booking ∷ []) }
     {
@@ -128,7 +128,7 @@ impl Roll {
 
     /// Changes the nth booking of a caller, counted from 1.
     pub(crate) fn set_booking(&mut self, caller: u32, nth: u64, booking: Booking)
-        requires caller { caller < callers }
+        requires caller { caller < CALLERS }
         requires from_one { 1 ≤ nth }
         requires within { nth ≤ length (bookings_of self.old caller) }
         ensures { self.new ≡ with_bookings self.old caller (slice_set (bookings_of self.old caller) (nth - 1) booking) }

@@ -5,16 +5,16 @@ use Rattle.std.proofs.Math.Seq.{take-length}
 use Rattle.bp_types.specs.declared.stay.Span.{Span}
 use Rattle.bp_types.specs.declared.change.Change.TheVariants.{Rooms}
 use Rattle.bp_types.specs.declared.command.Quoted.{Quoted}
-use Rattle.bp_types.specs.Claim.{Claim}
+use Rattle.bp_types.specs.Claim.{Claim, IsCertificateOf}
 use Rattle.bp_types.specs.Program.{Program}
-use Rattle.bp_types.specs.Changes.{changed, IsSpanOf, HasUnits}
+use Rattle.bp_types.specs.Changes.{changed, HasUnits}
 use Rattle.bp_types.specs.Displacement.{IsDisplacement}
 use Rattle.bp_types.specs.Laws.{CertificateIsOptimal}
+use Rattle.bp_types.specs.Spans.{IsSpanWithin}
 use Rattle.bp_board.specs.Posted.{Posted}
 use Rattle.bp_core.specs.declared.call.Call.{Call}
 use Rattle.bp_core.specs.declared.call.Answer.{Answer}
 use Rattle.bp_core.specs.Instance.{instance_of, instance_at}
-use Rattle.bp_core.specs.Legal.{IsCertificateOf}
 use Rattle.bp_core.specs.Acting.{Diary, line_of, IsLogged, IsRefused}
 use Rattle.bp_core_tests.specs.Desks.{Continues, IsBoardFor, IsQuoteOf}
 
@@ -57,7 +57,7 @@ quote_kept old new span rooms q continues was =
     )
 
 -- what two certificates say of rooms on a span
-pub quote_is : CertificateIsOptimal → (b : Diary) (p fewer : Program) (span : Span) (rooms units displacement : ℕ) (first last : Claim) → p ≡ instance_of b.house b.history → units ≡ b.house.limits.unit * rooms → IsSpanOf p span → HasUnits p span units → IsCertificateOf p first → fewer ≡ changed p (Rooms span false units) → IsCertificateOf fewer last → first.value ≡ displacement + last.value →
+pub quote_is : CertificateIsOptimal → (b : Diary) (p fewer : Program) (span : Span) (rooms units displacement : ℕ) (first last : Claim) → p ≡ instance_of b.house b.history → units ≡ b.house.limits.unit * rooms → IsSpanWithin (length p.rooms) span → HasUnits p span units → IsCertificateOf p first → fewer ≡ changed p (Rooms span false units) → IsCertificateOf fewer last → first.value ≡ displacement + last.value →
     IsDisplacement (instance_at b.house b.history (length b.history)) span (b.house.limits.unit * rooms) displacement
 quote_is optimal b p fewer span rooms units displacement first last now unit within has certified less certified_less difference =
     let at : p ≡ instance_at b.house b.history (length b.history) = now ∙ ap (instance_of b.house) (sym (take-length b.history)) in

@@ -3,10 +3,10 @@ use Rattle.std.specs.Prelude.{◌≡◌, ℕ, ◌*◌, ◌≤◌, length, take}
 use Rattle.bp_types.specs.declared.stay.Span.{Span}
 use Rattle.bp_types.specs.declared.command.Quoted.{Quoted}
 use Rattle.bp_types.specs.Displacement.{IsDisplacement}
+use Rattle.bp_types.specs.Claim.{IsCertificateOf}
 use Rattle.bp_board.specs.Posted.{Posted}
 use Rattle.bp_core.specs.Acting.{Diary}
 use Rattle.bp_core.specs.Instance.{instance_at}
-use Rattle.bp_core.specs.Legal.{IsCertificateOf}
 
 -- the house is the same, and so is the history up to each position that was there
 abbrev pub Continues : Diary → Diary → Type 0

@@ -1,11 +1,13 @@
 ghost use Rattle.std.specs.Prelude.{◌≡◌, ◌<◌, false, length, map, IfOk, IsTrue};
 ghost use Rattle.std.specs.List.{range_with_len};
 ghost use Rattle.std.specs.Arc.{arc_value};
-ghost use Rattle.bp_types.specs.Changes.{changed, IsSpanOf, HasUnits};
+ghost use Rattle.bp_types.specs.Changes.{changed, HasUnits};
+ghost use Rattle.bp_types.specs.Spans.{IsSpanWithin};
+ghost use Rattle.bp_types.specs.Claim.{IsCertificateOf};
 ghost use Rattle.bp_core.specs.Acting.{MayCall};
 ghost use Rattle.bp_core.specs.Callers.{may_log};
 ghost use Rattle.bp_core.specs.Instance.{units_left_at, stay_now, instance_of};
-ghost use Rattle.bp_core.specs.Legal.{is_in_range, is_command_in_range, IsCertificateOf};
+ghost use Rattle.bp_core.specs.Legal.{is_in_range, is_command_in_range};
 ghost use Rattle.bp_core_tests.specs.Desks.{Continues, IsBoardFor, IsQuoteOf};
 
 use bp_board::Board;
@@ -92,7 +94,7 @@ fn board_of(
 
 /// Whether each night of a span has so many units.
 fn has_units(instance: &Instance, span: Span, units: u64) -> bool
-    requires { IsSpanOf instance.now span }
+    requires { IsSpanWithin (length instance.now.rooms) span }
     ensures { IsTrue result → HasUnits instance.now span units }
 {
     for night in span.from..span.to {
@@ -105,7 +107,7 @@ fn has_units(instance: &Instance, span: Span, units: u64) -> bool
 
 /// The instance with so many units fewer on each night of a span.
 fn without(alloc: Global, instance: &Instance, span: Span, units: u64) -> Result<Instance, Fail>
-    requires span { IsSpanOf instance.now span }
+    requires span { IsSpanWithin (length instance.now.rooms) span }
     requires units { HasUnits instance.now span units }
     ensures { IfOk result (λ p. p ≡ changed instance.now (Change.Rooms span false units)) }
 {

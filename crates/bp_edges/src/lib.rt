@@ -20,7 +20,7 @@ pub use memory_shelf::MemoryShelf;
 pub use memory_sink::MemorySink;
 pub use out_sink::OutSink;
 pub use shelf::{Shelf, ShelfError};
-pub use sink::{Sink, SinkError, WriteError};
+pub use sink::{MOST_PIECE, Sink, SinkError, WriteError};
 
 #[cfg(test)]
 mod tests;

@@ -1,5 +1,5 @@
 //! Where text goes to.
-ghost use Rattle.std.specs.Prelude.{◌≡◌, ◌≤◌, ℕ, List, Option, IsErrOf};
+ghost use Rattle.std.specs.Prelude.{◌≡◌, ◌≤◌, ℕ, List, Option, IsErrOf, length};
 ghost use Rattle.bp_edges.specs.declared.sink.SinkError.TheVariants.{Memory};
 ghost use Rattle.bp_edges.specs.declared.sink.WriteError.TheVariants.{Memory as NoMemory};
 ghost use Rattle.bp_edges.specs.Counts.{Rose};
@@ -8,6 +8,9 @@ ghost use Rattle.bp_edges.specs.WriteError.{write_error};
 
 use std::alloc::{AllocError, AllocFailed, Global};
 use thiserror::Error;
+
+/// The most bytes that a sink is given at once.
+pub const MOST_PIECE: usize = 65_536;
 
 /// Why a sink did not take a piece. It may have taken a first part of it.
 #[derive(Clone, Copy, Debug, PartialEq, Eq, Error)]
@@ -79,6 +82,8 @@ pub trait Sink {
 
     /// Takes the piece, behind what it has. To take nothing of a piece that is not empty is a fault.
     fn put(&mut self, alloc: Global, piece: &[u8]) -> Result<(), SinkError>
+        requires { length piece.now ≤ MOST_PIECE }
+
         ensures writes { Writes (written self.old) (written self.new) piece.now result }
 
         // When it fails, and that it does not give up by itself.

@@ -11,7 +11,8 @@ use Rattle.bp_types.specs.Changes.{changed}
 use Rattle.bp_types.proofs.RoomLemmas.{length-rooms_moved, rooms_moved-at, room_moved-inside, room_moved-before, room_moved-past}
 use Rattle.bp_residual.specs.Network.{Priced, Flow, IsPriced, IsEmptyFlowOf, greatest_rate}
 use Rattle.bp_residual.proofs.Empty.{empty_is_slack, empty_is_balanced}
-use Rattle.bp_flow.specs.Solvers.{IsSolved, ColdSoFar, IsGap, IsSolverOf}
+use Rattle.bp_flow.specs.Solving.{Solving, priced}
+use Rattle.bp_flow.specs.Solvers.{IsSolvedFlow, IsSolved, ColdSoFar, IsGap, IsSolverOf}
 use Rattle.bp_flow.specs.Settled.{IsSettled}
 
 pub cold_none : (program copied : Program) (p : Priced) → copied ≡ program → IsPriced p → IsEmptyFlowOf copied p → ColdSoFar program 0 p
@@ -29,7 +30,7 @@ raised : (was : List ℕ) (span : Span) (units n : ℕ) → n < length was → s
 raised was span units n h = rooms_moved-at was span true units n 0 h
 
 pub cold_raised : (program : Program) (p q : Priced) (night to units : ℕ) → ColdSoFar program night p → IsGap program p.flow.program.rooms night to units
-    → q.flow.program ≡ changed p.flow.program (Rooms (record { from = night; to = to }) true units) → IsSolved q → ColdSoFar program night q
+    → q.flow.program ≡ changed p.flow.program (Rooms (record { from = night; to = to }) true units) → IsSolvedFlow q → ColdSoFar program night q
 cold_raised program p q night to units so_far gap is solved =
     let was : List ℕ = p.flow.program.rooms in
     let span : Span = record { from = night; to = to } in
@@ -71,7 +72,7 @@ cold_more program p night so_far within full = record {
   no_more = so_far.no_more;
 }
 
-pub cold_all : (program : Program) (p q : Priced) → ColdSoFar program (length program.rooms) p → q.flow ≡ p.flow → IsSettled q → IsSolved q → IsSolverOf program q
+pub cold_all : (program : Program) (p q : Solving) → ColdSoFar program (length program.rooms) (priced p) → q.flow ≡ p.flow → IsSettled q → IsSolved q → IsSolverOf program q
 cold_all program p q so_far same settled solved =
     let rooms : p.flow.program.rooms ≡ program.rooms = same_lists p.flow.program.rooms program.rooms so_far.each (λ k d h. get_or_default p.flow.program.rooms k d 0 h ∙ so_far.done k (omega (arith, so_far.each)) ∙ get_or_default program.rooms k 0 d (omega (arith, so_far.each))) in
     let make : List ℕ → List Stay → Program = λ r s. record { rooms = r; stays = s } in

@@ -10,7 +10,7 @@ use Rattle.bp_types.specs.Program.{Program, covers, load, no_stay, stay_at}
 use Rattle.bp_types.specs.Changes.{changed, with_forecast, with_rate}
 use Rattle.bp_types.proofs.SumLemmas.{sum_below-cong}
 use Rattle.bp_residual.specs.Network.{Priced, IsPriced, Flow, sell_more, sell_less, spare_more, spare_less, Admits, IsFlow, IsSlack, IsNonNegative, carried, IsBalanced, with_program}
-use Rattle.bp_flow.specs.Solvers.{IsSolved}
+use Rattle.bp_flow.specs.Solvers.{IsSolvedFlow}
 
 -- the flow with the stay's new rate
 abbrev rerated : Flow → ℕ → ℕ → Flow
@@ -67,7 +67,7 @@ rerated_slack f u j rate flow slack h none (sell_less i) a =
 rerated_slack f u j rate flow slack h none (spare_more n) a = slack (spare_more n) a
 rerated_slack f u j rate flow slack h none (spare_less n) a = slack (spare_less n) a
 
-pub rerated_solved : (p q : Priced) (j rate : ℕ) → IsSolved p → IsPriced q → j < length p.flow.program.stays → (stay_at p.flow.program j).forecast ≡ 0 → q ≡ with_program p (changed p.flow.program (Rate j rate)) → IsSolved q
+pub rerated_solved : (p q : Priced) (j rate : ℕ) → IsSolvedFlow p → IsPriced q → j < length p.flow.program.stays → (stay_at p.flow.program j).forecast ≡ 0 → q ≡ with_program p (changed p.flow.program (Rate j rate)) → IsSolvedFlow q
 rerated_solved p q j rate solved priced h none is =
     let B : Priced → Type 0 = λ r. IsBalanced r.flow in
     let S : Priced → Type 0 = λ r. IsSlack r.flow (slice_index r.potentials) in

@@ -3,8 +3,9 @@ use Rattle.std.proofs.Common.{◌≡◌, ℕ, zero, suc, ◌+◌, ◌-◌, ◌<�
 use Rattle.std.specs.List.{range_with_len, All}
 use Rattle.std.proofs.lemmas.List.{same_lists, get_or_default}
 use Rattle.std.proofs.lemmas.List.FromFn.{length-map-range_with_len, get_or-map-range_with_len}
+use Rattle.bp_types.specs.declared.limits.TheConstants.{MOST_PRICE}
 use Rattle.bp_types.specs.Program.{no_stay}
-use Rattle.bp_types.specs.Optimum.{greatest_price, AreSuffixSums, AreLeastPrices}
+use Rattle.bp_types.specs.Optimum.{AreSuffixSums, AreLeastPrices}
 use Rattle.bp_residual.specs.Network.{Priced, IsPriced, Flow, spare_more, IsSlack, IsBalanced, IsLifted}
 use Rattle.bp_residual.specs.Laws.{IsSettledBy}
 use Rattle.bp_residual.proofs.Lifts.{lift_keeps_slack}
@@ -12,7 +13,7 @@ use Rattle.bp_residual.proofs.Paths.{reaches_later}
 use Rattle.bp_residual.proofs.Least.{settled_prices_are_least, settled_is_slack}
 use Rattle.bp_residual.proofs.LeastLaws.{least_prices_are_within_rates}
 use Rattle.bp_paths.specs.Paths.{AreDistancesTo}
-use Rattle.bp_flow.specs.Settled.{IsSettled, AreFalls}
+use Rattle.bp_flow.specs.Settled.{IsSettledFlow, AreFalls}
 
 abbrev pub falls : (ℕ → ℕ) → ℕ → List ℕ
 falls w n = map (λ k. w k - w (k + 1)) (range_with_len 0 n)
@@ -53,7 +54,7 @@ first_is_greatest u N down (suc v) h = let e : u (suc v) ≡ u (v + 1) = ap u (o
 
 pub settled_by_lift : (p q : Priced) (distances by : List ℕ) → IsPriced p → IsSlack p.flow (slice_index p.potentials) → IsBalanced p.flow → AreDistancesTo p (length p.flow.program.rooms) distances → q.flow ≡ p.flow →
     AreFalls distances (slice_index p.potentials 0) by (length p.flow.program.rooms + 1) → IsLifted (length p.flow.program.rooms) p.potentials by q.potentials →
-    IsSettled q × IsSlack q.flow (slice_index q.potentials)
+    IsSettledFlow q × IsSlack q.flow (slice_index q.potentials)
 settled_by_lift p q distances by priced slack balance to same_flow fills lifted =
     let f : Flow = p.flow in
     let N = length f.program.rooms in
@@ -73,7 +74,7 @@ settled_by_lift p q distances by priced slack balance to same_flow fills lifted 
     let len : length prices ≡ N = length-map-range_with_len (λ k. settled k - settled (k + 1)) 0 N in
     let end : settled N ≡ 0 = omega (arith, priced.potentials.last) in
     let least : AreLeastPrices f.program prices = settled_prices_are_least f u d settled prices priced.limits priced.flow balance slack priced.potentials.last by_settled len (falls_sums settled N end down) in
-    let within : All (λ x. x ≤ greatest_price) prices = least_prices_are_within_rates f.program prices greatest_price priced.limits least (λ j h. (priced.limits.rates j no_stay h).1) in
+    let within : All (λ x. x ≤ MOST_PRICE) prices = least_prices_are_within_rates f.program prices MOST_PRICE priced.limits least (λ j h. (priced.limits.rates j no_stay h).1) in
     let top : (v : ℕ) → v ≤ N → u v ≤ u 0 = first_is_greatest u N priced.potentials.falls in
     let alike : (k : ℕ) → k < N → w k + settled (k + 1) ≡ settled k + w (k + 1) = λ k h.
     omega (arith, lifted.price k h, fills k (omega arith), fills (k + 1) (omega arith), below k (omega arith), below (k + 1) (omega arith), top k (omega arith), top (k + 1) (omega arith), down k h, within k 0 (omega (arith, len)), falls_at settled N k h) in

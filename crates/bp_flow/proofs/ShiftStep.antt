@@ -3,17 +3,16 @@ use Rattle.std.proofs.Common.{◌≡◌, ℕ, zero, suc, ◌+◌, ◌-◌, ◌*�
 use Rattle.std.specs.List.{All}
 use Rattle.std.proofs.Math.Nat.{mul-le-mul_left}
 use Rattle.std.proofs.lemmas.Bool.{cases_lt, cond-true, cond-false, le-leb, lt-leb}
+use Rattle.bp_types.specs.declared.limits.TheConstants.{MOST_PRICE, MOST_UNITS}
 use Rattle.bp_types.specs.Program.{no_stay}
 use Rattle.bp_types.specs.Limits.{IsWithinLimits}
-use Rattle.bp_types.specs.Optimum.{greatest_price}
 use Rattle.bp_residual.specs.declared.hop.Hop.{Hop}
-use Rattle.bp_residual.specs.Network.{Priced, IsPriced, Flow, Step, sell_more, sell_less, spare_more, spare_less, Admits, FitsSpare, Takes, step_of, steps_of, IsSlack, path_cost, pushed_along, HasImbalance, before, greatest_spare}
+use Rattle.bp_residual.specs.Network.{Priced, IsPriced, Flow, Step, sell_more, sell_less, spare_more, spare_less, Admits, FitsSpare, Takes, step_of, steps_of, IsSlack, path_cost, pushed_along, HasImbalance, before, greatest_spare, nodes}
 use Rattle.bp_residual.specs.Laws.{GrowsAlong}
 use Rattle.bp_residual.proofs.Lifts.{lift_keeps_slack, limit_keeps_slack}
 use Rattle.bp_residual.proofs.Augment.{shortest_paths_become_tight, push_moves_imbalance}
 use Rattle.bp_residual.proofs.PushLoop.{admits_along}
 use Rattle.bp_residual.proofs.Paths.{path_joins}
-use Rattle.bp_paths.specs.Labels.{nodes}
 use Rattle.bp_paths.specs.Paths.{Kept, AreDistancesUpTo, IsShortestPath}
 use Rattle.bp_paths.proofs.Answer.{admits_fewer}
 use Rattle.bp_flow.specs.Shift.{IsLiftedBy, IsShifting}
@@ -32,7 +31,7 @@ before_le v n units =
     at v n g = cond-true _ 1 0 (le-leb v n g)
 
 -- no spare number is greater than the rooms and what is still to move
-pub spare_bound : (f : Flow) (from to units n : ℕ) → IsWithinLimits f.program → HasImbalance f from to units → n < length f.program.rooms → slice_index f.spare n ≤ 1000000 + units
+pub spare_bound : (f : Flow) (from to units n : ℕ) → IsWithinLimits f.program → HasImbalance f from to units → n < length f.program.rooms → slice_index f.spare n ≤ MOST_UNITS + units
 spare_bound f from to units n limits imbalance h = omega (arith, imbalance n h, before_le to n units, limits.rooms n 0 h)
 
 fits_any : (f : Flow) (s : Step) (units : ℕ) → Admits f s units → ((n : ℕ) → n < length f.program.rooms → slice_index f.spare n + units ≤ greatest_spare) → FitsSpare f s units
@@ -84,7 +83,7 @@ augmented p from to units amount left kept q priced to_in slack distances shorte
     let e : left ≡ amount + (left - amount) = omega arith in
     let P : ℕ → Type 0 = λ k. HasImbalance f from to k in
     let moved = push_moves_imbalance f lifted path from to amount (left - amount) priced.limits priced.flow lifted_slack tight (path_joins f from to path shortest.is_path) (admits_along f kept.path amount shortest.once takes) (subst P e imbalance) in (
-      limit_keeps_slack (pushed_along f path amount) lifted (slice_index q) greatest_price priced.limits (λ j h. (priced.limits.rates j no_stay h).1) moved.1
+      limit_keeps_slack (pushed_along f path amount) lifted (slice_index q) MOST_PRICE priced.limits (λ j h. (priced.limits.rates j no_stay h).1) moved.1
           (λ n h. omega (arith, lifted_by.price n h, above n (omega arith), above (n + 1) (omega arith), falls n h)),
       moved.2,
     )

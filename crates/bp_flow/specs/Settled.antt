@@ -3,10 +3,15 @@ use Rattle.std.specs.Prelude.{◌≡◌, ℕ, ◌-◌, ◌≤◌, ◌<◌, List,
 use Rattle.bp_types.specs.Program.{Program}
 use Rattle.bp_types.specs.Optimum.{IsOptimum, AreLeastPrices}
 use Rattle.bp_residual.specs.Network.{Priced, prices_of, greatest_rate}
+use Rattle.bp_flow.specs.Solving.{Solving, priced}
 
 -- the prices are the least optimal ones
-abbrev pub IsSettled : Priced → Type 0
-IsSettled p = AreLeastPrices p.flow.program (prices_of p)
+abbrev pub IsSettledFlow : Priced → Type 0
+IsSettledFlow p = AreLeastPrices p.flow.program (prices_of p)
+
+-- the same of the flow of a solver
+abbrev pub IsSettled : Solving → Type 0
+IsSettled s = IsSettledFlow (priced s)
 
 -- the program has an optimum, and exactly one list of least prices, none of them above the greatest rate
 pub record IsSolvable (p : Program) : Type 0 where

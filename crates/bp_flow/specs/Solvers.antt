@@ -2,24 +2,30 @@
 use Rattle.std.specs.Prelude.{◌≡◌, ℕ, ◌+◌, ◌-◌, ◌≤◌, ◌<◌, List, length, slice_index, slice_set}
 use Rattle.bp_types.specs.Program.{Program, stay_at}
 use Rattle.bp_types.specs.Changes.{with_forecast}
-use Rattle.bp_flow.specs.Settled.{IsSettled}
 use Rattle.bp_residual.specs.Network.{Priced, IsPriced, IsSlack, IsBalanced}
+use Rattle.bp_paths.specs.Paths.{Serves}
+use Rattle.bp_flow.specs.Solving.{Solving, priced}
+use Rattle.bp_flow.specs.Settled.{IsSettled}
 
 -- the flow carries exactly the rooms, and no residual step has a negative reduced cost
-pub record IsSolved (p : Priced) : Type 0 where
+pub record IsSolvedFlow (p : Priced) : Type 0 where
   pub priced : IsPriced p
   pub balanced : IsBalanced p.flow
   pub slack : IsSlack p.flow (slice_index p.potentials)
 
+-- the same of the flow of a solver
+abbrev pub IsSolved : Solving → Type 0
+IsSolved s = IsSolvedFlow (priced s)
+
 -- an optimal flow of the program with the least prices
-pub record IsSolverOf (program : Program) (p : Priced) : Type 0 where
-  pub solved : IsSolved p
-  pub settled : IsSettled p
-  pub solves : p.flow.program ≡ program
+pub record IsSolverOf (program : Program) (s : Solving) : Type 0 where
+  pub solved : IsSolved s
+  pub settled : IsSettled s
+  pub solves : s.flow.program ≡ program
 
 -- the rooms of the nights below a night are the program's, and no other night has more than there
 pub record ColdSoFar (program : Program) (night : ℕ) (p : Priced) : Type 0 where
-  pub solved : IsSolved p
+  pub solved : IsSolvedFlow p
   pub stays : p.flow.program.stays ≡ program.stays
   pub each : length p.flow.program.rooms ≡ length program.rooms
   pub done : (n : ℕ) → n < night → slice_index p.flow.program.rooms n ≡ slice_index program.rooms n
@@ -47,3 +53,7 @@ difference a b = (a - b) + (b - a)
 -- a counter has counted so many steps at most
 abbrev pub CountsUpTo : ℕ → ℕ → ℕ → Type 0
 CountsUpTo old new most = (old ≤ new) × (new ≤ old + most)
+
+-- it has counted just the searches that a scratch served, so many at most
+abbrev pub CountsSearches : ℕ → ℕ → ℕ → ℕ → ℕ → Type 0
+CountsSearches old new served_old served_new most = CountsUpTo old new most × Serves served_old served_new (new - old)

@@ -1,11 +1,10 @@
 ghost use Rattle.std.specs.Prelude.{◌≡◌, ℕ, ◌+◌, ◌-◌, ◌<◌, ◌≤◌, length, slice_index};
+ghost use Rattle.bp_types.specs.declared.limits.TheConstants.{MOST_FORECAST};
 ghost use Rattle.bp_types.specs.declared.change.Change.TheVariants.{Demand};
-ghost use Rattle.bp_types.specs.Limits.{most_forecast};
 ghost use Rattle.bp_types.specs.Program.{stay_at};
 ghost use Rattle.bp_types.specs.Changes.{changed};
-ghost use Rattle.bp_paths.specs.Labels.{nodes};
-ghost use Rattle.bp_residual.specs.Network.{Priced, HasImbalance, IsBalanced, IsSlack};
-ghost use Rattle.bp_flow.specs.Solvers.{IsSolved, SetsDemand, CountsUpTo, difference};
+ghost use Rattle.bp_residual.specs.Network.{Priced, HasImbalance, IsBalanced, IsSlack, nodes};
+ghost use Rattle.bp_flow.specs.Solvers.{IsSolvedFlow, SetsDemand, CountsSearches, difference};
 
 use crate::moves::shift;
 use bp_paths::Scratch;
@@ -16,7 +15,7 @@ use std::sync::ledger::Ledger;
 /// Sets the forecast of a stay, and how much of it is sold.
 fn set_demand(flow: &mut Flow, stay: u32, value: u64, units: u64)
     requires stay { stay < length flow.old.flow.program.stays }
-    requires value { value ≤ most_forecast }
+    requires value { value ≤ MOST_FORECAST }
     requires units { units ≤ value }
     ensures { SetsDemand flow.old flow.new stay value units }
 {
@@ -40,14 +39,14 @@ pub(crate) fn reforecast<L: Ledger>(
     steps: &mut Steps<L>,
 )
     requires stay { stay < length flow.old.flow.program.stays }
-    requires value { value ≤ most_forecast }
+    requires value { value ≤ MOST_FORECAST }
     requires size { length scratch.old.distances ≡ nodes flow.old }
-    requires solved { IsSolved flow.old }
+    requires solved { IsSolvedFlow flow.old }
     ensures program { flow.new.flow.program ≡ changed flow.old.flow.program (Demand stay value) }
     ensures balanced { IsBalanced flow.new.flow }
     ensures slack { IsSlack flow.new.flow (slice_index flow.new.potentials) }
     ensures size { length scratch.new.distances ≡ length scratch.old.distances }
-    ensures counted { CountsUpTo steps.old steps.new (difference (stay_at flow.old.flow.program stay).forecast value) }
+    ensures counted { CountsSearches steps.old steps.new scratch.old.served scratch.new.served (difference (stay_at flow.old.flow.program stay).forecast value) }
 {
     let terms = flow.stay(stay);
     let sold = flow.sold(stay);

@@ -7,6 +7,7 @@
 
 mod demand;
 mod gap;
+pub mod law;
 mod moves;
 mod rooms;
 mod settling;

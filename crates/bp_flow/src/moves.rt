@@ -1,20 +1,18 @@
 ghost use Rattle.std.specs.Prelude.{◌≡◌, ℕ, ◌+◌, ◌-◌, ◌*◌, ◌^◌, ◌<◌, ◌≤◌, length, slice_index, min};
-ghost use Rattle.bp_residual.specs.Network.{Priced, IsSlack, IsPriced, IsBalanced, HasImbalance};
-ghost use Rattle.bp_paths.specs.Labels.{nodes, far};
+ghost use Rattle.bp_residual.specs.Network.{Priced, IsSlack, IsPriced, IsBalanced, HasImbalance, nodes};
+ghost use Rattle.bp_paths.specs.Paths.{far, Serves};
 ghost use Rattle.bp_flow.specs.Shift.{IsShifting, AreRaises, IsLiftedBy};
-ghost use Rattle.bp_flow.specs.Solvers.{CountsUpTo};
+ghost use Rattle.bp_flow.specs.Solvers.{CountsSearches};
 
 use bp_paths::{Found, Scratch, search};
 use bp_residual::{Flow, law};
 use bp_types::Steps;
+use bp_types::limits::MOST_NODES;
 use std::sync::ledger::Ledger;
-
-/// One place for each node.
-const MOST_NODES: usize = 401;
 
 fn fill_raises(scratch: &Scratch, target: u128, by: &mut [u128])
     requires size { length by.old ≡ length scratch.now.distances }
-    requires few { length by.old ≤ 401 }
+    requires few { length by.old ≤ MOST_NODES }
     requires target { target < far }
     ensures { AreRaises scratch.now.distances target by.new (length by.new) }
 {
@@ -60,6 +58,7 @@ fn augment<L: Ledger>(
     ensures shifting { IsShifting flow.old flow.new from to (left - result) }
     ensures size { length scratch.new.distances ≡ length scratch.old.distances }
     ensures counted { steps.new ≡ steps.old + 1 }
+    ensures served { Serves scratch.old.served scratch.new.served 1 }
 {
     let _nights = flow.nights();
     law::paths_exist();
@@ -95,7 +94,7 @@ pub fn shift<L: Ledger>(
     ensures balanced { IsBalanced flow.new.flow }
     ensures slack { IsSlack flow.new.flow (slice_index flow.new.potentials) }
     ensures size { length scratch.new.distances ≡ length scratch.old.distances }
-    ensures counted { CountsUpTo steps.old steps.new units }
+    ensures counted { CountsSearches steps.old steps.new scratch.old.served scratch.new.served units }
 {
     let mut left = units;
     while left > 0 {

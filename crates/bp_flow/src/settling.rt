@@ -1,19 +1,18 @@
 ghost use Rattle.std.specs.Prelude.{◌≡◌, ℕ, ◌+◌, ◌-◌, ◌<◌, ◌≤◌, length, slice_index};
-ghost use Rattle.bp_residual.specs.Network.{Priced, IsSlack, IsBalanced};
-ghost use Rattle.bp_paths.specs.Labels.{nodes, far};
-ghost use Rattle.bp_flow.specs.Settled.{IsSettled, AreFalls};
+ghost use Rattle.bp_residual.specs.Network.{Priced, IsSlack, IsBalanced, nodes};
+ghost use Rattle.bp_paths.specs.Paths.{far};
+ghost use Rattle.bp_flow.specs.Settled.{IsSettledFlow, AreFalls};
+ghost use Rattle.bp_flow.specs.Solvers.{CountsSearches};
 
 use bp_paths::{Scratch, search_to};
 use bp_residual::Flow;
 use bp_types::Steps;
+use bp_types::limits::MOST_NODES;
 use std::sync::ledger::Ledger;
-
-/// One place for each node.
-const MOST_NODES: usize = 401;
 
 fn fill_falls(scratch: &Scratch, top: u128, by: &mut [u128])
     requires size { length by.old ≡ length scratch.now.distances }
-    requires few { length by.old ≤ 401 }
+    requires few { length by.old ≤ MOST_NODES }
     ensures { AreFalls scratch.now.distances top by.new (length by.new) }
 {
     for node in 0..by.len() {
@@ -27,10 +26,10 @@ pub(crate) fn settle_flow<L: Ledger>(flow: &mut Flow, scratch: &mut Scratch, ste
     requires slack { IsSlack flow.old.flow (slice_index flow.old.potentials) }
     requires balanced { IsBalanced flow.old.flow }
     ensures flow { flow.new.flow ≡ flow.old.flow }
-    ensures settled { IsSettled flow.new }
+    ensures settled { IsSettledFlow flow.new }
     ensures slack { IsSlack flow.new.flow (slice_index flow.new.potentials) }
     ensures size { length scratch.new.distances ≡ length scratch.old.distances }
-    ensures counted { steps.new ≡ steps.old + 1 }
+    ensures counted { CountsSearches steps.old steps.new scratch.old.served scratch.new.served 1 }
 {
     let nights = flow.nights();
     let top = u128::from(flow.level(0));

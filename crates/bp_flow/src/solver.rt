@@ -1,15 +1,17 @@
 ghost use Rattle.std.specs.Prelude.{◌≡◌, ℕ, ◌+◌, ◌-◌, ◌*◌, ◌<◌, ◌≤◌, true, false, length, slice_index, All, IfOk};
 ghost use Rattle.bp_types.specs.declared.change.Change.TheVariants.{Rooms, Demand, Rate};
-ghost use Rattle.bp_types.specs.Optimum.{Certifies, AreLeastPrices};
+ghost use Rattle.bp_types.specs.Claim.{IsCertificateOf, IsLeastCertificate};
+ghost use Rattle.bp_types.specs.Optimum.{IsOptimum};
 ghost use Rattle.bp_types.specs.Program.{stay_at};
 ghost use Rattle.bp_types.specs.Changes.{changed, Fits};
-ghost use Rattle.bp_paths.specs.Labels.{nodes};
-ghost use Rattle.bp_residual.specs.Network.{Priced, greatest_rate};
-ghost use Rattle.bp_flow.specs.Solvers.{ColdSoFar, IsSolved, IsSolverOf, CountsUpTo, difference};
+ghost use Rattle.bp_residual.specs.Network.{Priced, greatest_rate, nodes};
+ghost use Rattle.bp_flow.specs.Solving.{Solving, priced};
+ghost use Rattle.bp_flow.specs.Solvers.{ColdSoFar, IsSolved, IsSolverOf, CountsSearches, difference};
 ghost use Rattle.bp_flow.specs.Settled.{IsSettled, IsSolvable};
 
 use crate::demand::reforecast;
 use crate::gap::{Gap, gap_at};
+use crate::law;
 use crate::moves::shift;
 use crate::rooms::{add_rooms, take_rooms};
 use crate::settling::settle_flow;
@@ -22,7 +24,8 @@ use std::sync::ledger::Ledger;
 
 /// A flow that carries exactly the rooms, without negative reduced costs, and the memory of its searches.
 ///
-/// Contracts see the flow with its potentials; the instance that is solved is the program of that flow.
+/// Contracts see the flow with its potentials, and how many searches were made; the instance that is solved is
+/// the program of that flow.
 #[derive(Drop)]
 pub struct Solver {
     flow: Flow,
@@ -31,15 +34,15 @@ pub struct Solver {
 
 impl Model for Solver {
     ghost use Rattle.std.specs.Prelude.{◌≡◌, length};
-    ghost use Rattle.bp_residual.specs.Network.{Priced};
-    ghost use Rattle.bp_paths.specs.Labels.{nodes};
-    ghost use Rattle.bp_flow.specs.Solvers.{IsSolved};
+    ghost use Rattle.bp_residual.specs.Network.{nodes};
+    ghost use Rattle.bp_flow.specs.Solving.{Solving};
+    ghost use Rattle.bp_flow.specs.Solvers.{IsSolvedFlow};
 
-    ghost Value = { Priced };
+    ghost Value = { Solving };
 
-    ghost view = { λ a. a.flow };
+    ghost view = { λ a. record { flow = a.flow.flow; potentials = a.flow.potentials; served = a.scratch.served } };
 
-    ghost invariant = { λ a. IsSolved a.flow × (length a.scratch.distances ≡ nodes a.flow) };
+    ghost invariant = { λ a. IsSolvedFlow a.flow × (length a.scratch.distances ≡ nodes a.flow) };
 }
 
 impl Solver {
@@ -62,7 +65,7 @@ impl Solver {
 
     /// A solver on the instance without rooms.
     fn empty(alloc: Global, instance: &Instance) -> Result<Solver, Memory>
-        ensures { IfOk result (ColdSoFar instance.now 0) }
+        ensures { IfOk result (λ s. ColdSoFar instance.now 0 (priced s)) }
     {
         let nodes = instance.nights() + 1;
         let flow = Flow::empty(alloc, instance.copy(alloc)?)?;
@@ -74,9 +77,9 @@ impl Solver {
     /// Raises the rooms of a night to those of the instance, together with nights behind it that lack some too:
     /// units that cross many nights at once take fewer searches than night by night.
     fn fill<L: Ledger>(&mut self, instance: &Instance, night: u32, steps: &mut Steps<L>)
-        requires so_far { ColdSoFar instance.now night self.old }
+        requires so_far { ColdSoFar instance.now night (priced self.old) }
         requires in_range { night < length instance.now.rooms }
-        ensures { ColdSoFar instance.now (night + 1) self.new }
+        ensures { ColdSoFar instance.now (night + 1) (priced self.new) }
     {
         while self.rooms(night) < instance.rooms(night) {
             let Gap { to, units } = gap_at(self, instance, night);
@@ -84,9 +87,10 @@ impl Solver {
         }
     }
 
-    /// A copy, which goes its own way from here on.
+    /// A copy, which goes its own way from here on, and has made no search.
     pub fn copy(&self, alloc: Global) -> Result<Solver, Memory>
-        ensures { IfOk result (λ s. s ≡ self.now) }
+        ensures same { IfOk result (λ s. priced s ≡ priced self.now) }
+        ensures served { IfOk result (λ s. s.served ≡ 0) }
     {
         let flow = self.flow.copy(alloc)?;
         let nodes = flow.nights() + 1;
@@ -99,8 +103,10 @@ impl Solver {
         requires { Fits self.old.flow.program (Rooms span true units) }
         ensures program { self.new.flow.program ≡ changed self.old.flow.program (Rooms span true units) }
         ensures solved { IsSolved self.new }
-        ensures counted { CountsUpTo steps.old steps.new units }
+        ensures solvable { IsSolvable self.new.flow.program }
+        ensures counted { CountsSearches steps.old steps.new self.old.served self.new.served units }
     {
+        law::solved_programs_are_solvable();
         let Span { from, to } = span;
         let _nights = self.flow.nights();
         add_rooms(&mut self.flow, span, units);
@@ -113,8 +119,10 @@ impl Solver {
         requires { Fits self.old.flow.program (Rooms span false units) }
         ensures program { self.new.flow.program ≡ changed self.old.flow.program (Rooms span false units) }
         ensures solved { IsSolved self.new }
-        ensures counted { CountsUpTo steps.old steps.new units }
+        ensures solvable { IsSolvable self.new.flow.program }
+        ensures counted { CountsSearches steps.old steps.new self.old.served self.new.served units }
     {
+        law::solved_programs_are_solvable();
         let Span { from, to } = span;
         let _nights = self.flow.nights();
         take_rooms(&mut self.flow, span, units);
@@ -127,8 +135,10 @@ impl Solver {
         requires { Fits self.old.flow.program (Demand stay value) }
         ensures program { self.new.flow.program ≡ changed self.old.flow.program (Demand stay value) }
         ensures solved { IsSolved self.new }
-        ensures counted { CountsUpTo steps.old steps.new (difference (stay_at self.old.flow.program stay).forecast value) }
+        ensures solvable { IsSolvable self.new.flow.program }
+        ensures counted { CountsSearches steps.old steps.new self.old.served self.new.served (difference (stay_at self.old.flow.program stay).forecast value) }
     {
+        law::solved_programs_are_solvable();
         reforecast(&mut self.flow, &mut self.scratch, stay, value, steps);
         let _nights = self.flow.nights();
     }
@@ -138,8 +148,10 @@ impl Solver {
         requires { Fits self.old.flow.program (Rate stay value) }
         ensures program { self.new.flow.program ≡ changed self.old.flow.program (Rate stay value) }
         ensures solved { IsSolved self.new }
-        ensures counted { CountsUpTo steps.old steps.new (2 * (stay_at self.old.flow.program stay).forecast) }
+        ensures solvable { IsSolvable self.new.flow.program }
+        ensures counted { CountsSearches steps.old steps.new self.old.served self.new.served (2 * (stay_at self.old.flow.program stay).forecast) }
     {
+        law::solved_programs_are_solvable();
         let _nights = self.flow.nights();
         let forecast = self.flow.stay(stay).forecast;
         self.demand(stay, 0, steps);
@@ -153,32 +165,43 @@ impl Solver {
         requires unasked { (stay_at self.old.flow.program stay).forecast ≡ 0 }
         ensures program { self.new.flow.program ≡ changed self.old.flow.program (Rate stay value) }
         ensures solved { IsSolved self.new }
+        ensures served { self.new.served ≡ self.old.served }
     {
         self.flow.set_rate(stay, value);
         let _nights = self.flow.nights();
     }
 
-    /// Makes the prices the least optimal ones, by one search.
+    /// Makes the prices the least optimal ones, by one search. A body that tests whether they are, in place of
+    /// that search, keeps to `counted` too.
     pub fn settle<L: Ledger>(&mut self, steps: &mut Steps<L>)
         ensures flow { self.new.flow ≡ self.old.flow }
         ensures settled { IsSettled self.new }
         ensures solved { IsSolved self.new }
         ensures solvable { IsSolvable self.new.flow.program }
-        ensures counted { CountsUpTo steps.old steps.new 1 }
+        ensures counted { CountsSearches steps.old steps.new self.old.served self.new.served 1 }
     {
+        law::solved_programs_are_solvable();
         settle_flow(&mut self.flow, &mut self.scratch, steps);
         let _nights = self.flow.nights();
     }
 
-    /// The allocation, the prices, and the revenue as the value of both: a certificate of the instance with
-    /// its least prices.
+    /// The optimum of the instance, in minor units of money times the unit. It takes no memory.
+    pub fn value(&self) -> u128
+        ensures { IsOptimum self.now.flow.program result }
+    {
+        bp_types::law::certificate_is_optimal();
+        self.flow.worth()
+    }
+
+    /// The allocation, the prices, and the revenue as the value of both: a certificate of the instance. From a
+    /// settled solver its prices are the least ones.
     pub fn certificate(&self, alloc: Global) -> Result<Certificate, Memory>
-        requires settled { IsSettled self.now }
-        ensures certifies { IfOk result (λ c. Certifies self.now.flow.program c.value c.sell c.prices) }
-        ensures least { IfOk result (λ c. AreLeastPrices self.now.flow.program c.prices) }
-        ensures within_rates { IfOk result (λ c. All (λ x. x ≤ greatest_rate self.now.flow.program) c.prices) }
+        ensures certifies { IfOk result (IsCertificateOf self.now.flow.program) }
+        ensures least { IfOk result (λ c. IsSettled self.now → IsLeastCertificate self.now.flow.program c) }
+        ensures within_rates { IfOk result (λ c. IsSettled self.now → All (λ x. x ≤ greatest_rate self.now.flow.program) c.prices) }
         ensures sold { IfOk result (λ c. c.sell ≡ self.now.flow.sell) }
     {
+        bp_types::law::certificate_is_optimal();
         let certificate = self.flow.certificate(alloc)?;
         Ok(certificate)
     }

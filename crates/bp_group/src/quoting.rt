@@ -1,15 +1,16 @@
-ghost use Rattle.std.specs.Prelude.{◌≡◌, ◌+◌, None, IfOk, IfErr, OnOk};
-ghost use Rattle.bp_types.specs.Optimum.{AreLeastPrices, Certifies};
-ghost use Rattle.bp_types.specs.Changes.{HasUnits, IsSpanOf};
+ghost use Rattle.std.specs.Prelude.{◌≡◌, ◌+◌, None, length, slice_index, IfOk, IfErr, OnOk};
+ghost use Rattle.bp_types.specs.Claim.{IsLeastCertificate};
+ghost use Rattle.bp_types.specs.Spans.{IsSpanWithin, first_short};
+ghost use Rattle.bp_types.specs.Changes.{HasUnits};
 ghost use Rattle.bp_types.specs.Displacement.{IsDisplacement, without};
 ghost use Rattle.bp_flow.specs.Settled.{IsSettled};
 ghost use Rattle.bp_flow.specs.Solvers.{CountsUpTo};
-ghost use Rattle.bp_group.specs.Quotes.{first_short, night_of};
+ghost use Rattle.bp_group.specs.Quotes.{night_of};
 
-use crate::rooms::short_night;
+use crate::rooms::first_short;
 use crate::{GroupQuote, QuoteError};
 use bp_flow::Solver;
-use bp_types::{Certificate, Memory, Span, Steps};
+use bp_types::{Certificate, Memory, Span, Steps, law};
 use std::alloc::Global;
 use std::sync::ledger::Ledger;
 
@@ -24,20 +25,19 @@ pub fn quote<L: Ledger>(
     steps: &mut Steps<L>,
 ) -> Result<GroupQuote, QuoteError>
     requires settled { IsSettled solver.now }
-    requires span { IsSpanOf solver.now.flow.program span }
+    requires span { IsSpanWithin (length solver.now.flow.program.rooms) span }
     ensures displacement { IfOk result (λ q. IsDisplacement solver.now.flow.program span rooms q.displacement) }
     ensures position { IfOk result (λ q. q.position ≡ position) }
     ensures span { IfOk result (λ q. q.span ≡ span) }
     ensures rooms { IfOk result (λ q. q.rooms ≡ rooms) }
-    ensures before { IfOk result (λ q. Certifies solver.now.flow.program q.before.value q.before.sell q.before.prices) }
-    ensures before_least { IfOk result (λ q. AreLeastPrices solver.now.flow.program q.before.prices) }
-    ensures after { IfOk result (λ q. Certifies (without solver.now.flow.program span rooms) q.after.value q.after.sell q.after.prices) }
-    ensures after_least { IfOk result (λ q. AreLeastPrices (without solver.now.flow.program span rooms) q.after.prices) }
-    ensures room { OnOk result (first_short solver.now.flow.program span rooms ≡ None) }
-    ensures no_room { IfErr result (λ e. first_short solver.now.flow.program span rooms ≡ night_of e) }
+    ensures before { IfOk result (λ q. IsLeastCertificate solver.now.flow.program q.before) }
+    ensures after { IfOk result (λ q. IsLeastCertificate (without solver.now.flow.program span rooms) q.after) }
+    ensures room { OnOk result (first_short (slice_index solver.now.flow.program.rooms) span rooms ≡ None) }
+    ensures no_room { IfErr result (λ e. first_short (slice_index solver.now.flow.program.rooms) span rooms ≡ night_of e) }
     ensures counted { CountsUpTo steps.old steps.new (rooms + 1) }
 {
-    if let Some(night) = short_night(solver, span, rooms) {
+    law::certificates_tell_displacement();
+    if let Some(night) = first_short(solver, span, rooms) {
         return Err(QuoteError::NoRoom { night });
     }
     let before = solver.certificate(alloc)?;
@@ -61,10 +61,9 @@ fn optimum_without<L: Ledger>(
     units: u64,
     steps: &mut Steps<L>,
 ) -> Result<Certificate, Memory>
-    requires span { IsSpanOf solver.now.flow.program span }
+    requires span { IsSpanWithin (length solver.now.flow.program.rooms) span }
     requires units { HasUnits solver.now.flow.program span units }
-    ensures certifies { IfOk result (λ c. Certifies (without solver.now.flow.program span units) c.value c.sell c.prices) }
-    ensures least { IfOk result (λ c. AreLeastPrices (without solver.now.flow.program span units) c.prices) }
+    ensures least { IfOk result (IsLeastCertificate (without solver.now.flow.program span units)) }
     ensures counted { CountsUpTo steps.old steps.new (units + 1) }
 {
     let mut without = solver.copy(alloc)?;

@@ -1,6 +1,7 @@
 ghost use Rattle.std.specs.Prelude.{◌≡◌, ℕ, ◌+◌, ◌<◌, ◌≤◌, ◌^◌, ◌↔◌, true, false, length, slice_index, EachIndex, IfOk, IfErr, IsErr, OnOk, OnErr};
 ghost use Rattle.bp_types.specs.Rooms.{rooms_moved};
-ghost use Rattle.bp_ledger.specs.Inventory.{Inventory, IsInventory, IsSpanOf, HasLeft, HasSold, first_short, taken, released, resized};
+ghost use Rattle.bp_types.specs.Spans.{IsSpanWithin, first_short};
+ghost use Rattle.bp_ledger.specs.Inventory.{Inventory, IsInventory, HasLeft, HasSold, taken, released, resized, left_on};
 
 use bp_types::{Memory, Span};
 use std::alloc::Global;
@@ -14,7 +15,8 @@ pub struct BelowSold {
 
 /// The rooms of each night and how many of them are sold, never more than there are.
 ///
-/// Contracts see these two lists, one number per night, in whole rooms.
+/// Contracts see these two lists, one number per night, in whole rooms. What its calls name units are whole
+/// rooms too, whatever the unit of the house.
 #[derive(Debug, Drop)]
 pub struct Ledger {
     rooms: Vec<u64>,
@@ -45,8 +47,8 @@ impl Ledger {
 
     /// The first night of the span with fewer rooms left than `units`, if there is one.
     pub fn first_full(&self, span: Span, units: u64) -> Option<u32>
-        requires { IsSpanOf self.now span }
-        ensures { result ≡ first_short self.now span units }
+        requires { IsSpanWithin (length self.now.rooms) span }
+        ensures { result ≡ first_short (left_on self.now) span units }
     {
         for night in span.from..span.to {
             if self.rooms(night) - self.sold(night) < units {
@@ -58,7 +60,7 @@ impl Ledger {
 
     /// Sells so many rooms on each night of the span.
     pub fn take(&mut self, span: Span, units: u64)
-        requires span { IsSpanOf self.old span }
+        requires span { IsSpanWithin (length self.old.rooms) span }
         requires left { HasLeft self.old span units }
         ensures { self.new ≡ taken self.old span units }
     {
@@ -67,7 +69,7 @@ impl Ledger {
 
     /// Gives so many sold rooms back on each night of the span.
     pub fn release(&mut self, span: Span, units: u64)
-        requires span { IsSpanOf self.old span }
+        requires span { IsSpanWithin (length self.old.rooms) span }
         requires sold { HasSold self.old span units }
         ensures { self.new ≡ released self.old span units }
     {

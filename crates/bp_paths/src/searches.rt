@@ -1,7 +1,7 @@
 ghost use Rattle.std.specs.Prelude.{◌≡◌, ℕ, ◌+◌, ◌-◌, ◌*◌, ◌^◌, ◌<◌, ◌≤◌, [], length, replicate, slice_index, All, drop, false, IfOk};
-ghost use Rattle.bp_residual.specs.Network.{Priced, IsSlack, IsPriced, Admits, step_of, steps_of, arcs};
-ghost use Rattle.bp_paths.specs.Labels.{nodes, far, AreLabelsSoFar, IsTracedPath};
-ghost use Rattle.bp_paths.specs.Paths.{Kept, AreDistancesTo, IsFound, distance_of, least_room};
+ghost use Rattle.bp_residual.specs.Network.{Priced, IsSlack, IsPriced, Admits, step_of, steps_of, arcs, nodes};
+ghost use Rattle.bp_paths.specs.Labels.{AreLabelsSoFar, IsTracedPath};
+ghost use Rattle.bp_paths.specs.Paths.{far, Kept, Serves, AreDistancesTo, IsFound, distance_of, least_room};
 
 use crate::labels::Labels;
 use bp_residual::{Flow, Hop};
@@ -21,12 +21,16 @@ pub enum Found {
 
 /// The memory of searches: the distances that the last one found, and its path.
 ///
-/// Contracts see a number for each node, where the greatest u128 stands for none, and a list of hops.
+/// Contracts see a number for each node, where the greatest u128 stands for none, a list of hops, and how many
+/// searches it served. That number tells a counter of steps that each search was counted.
 #[derive(Drop)]
 pub struct Scratch {
     labels: Labels,
+    /// The path stands at the end of these places, from `start` on.
     slots: Vec<Hop>,
     start: usize,
+    /// How many searches used this memory; it stays at the greatest number.
+    served: u64,
 }
 
 impl Model for Scratch {
@@ -35,7 +39,7 @@ impl Model for Scratch {
 
     ghost Value = { Kept };
 
-    ghost view = { λ a. record { distances = a.labels.kept.items; path = drop a.start a.slots.items } };
+    ghost view = { λ a. record { distances = a.labels.kept.items; path = drop a.start a.slots.items; served = a.served } };
 
     ghost invariant = { λ a. (length a.labels.rank.items ≡ length a.labels.kept.items) × (length a.labels.via.items ≡ length a.labels.kept.items) × (length a.slots.items ≡ length a.labels.kept.items) × (a.start ≤ length a.slots.items) };
 }
@@ -45,6 +49,7 @@ impl Scratch {
     pub fn new(alloc: Global, nodes: u32, _arcs: u32) -> Result<Scratch, Memory>
         ensures distances { IfOk result (λ k. k.distances ≡ replicate nodes far) }
         ensures path { IfOk result (λ k. k.path ≡ []) }
+        ensures served { IfOk result (λ k. k.served ≡ 0) }
     {
         let size = nodes as usize;
         let none = Hop {
@@ -68,6 +73,7 @@ impl Scratch {
             },
             slots,
             start: size,
+            served: 0,
         })
     }
 
@@ -140,8 +146,10 @@ pub fn search<L: Ledger>(
     ensures found { IsFound flow.now from to scratch.new result }
     ensures size { length scratch.new.distances ≡ nodes flow.now }
     ensures counted { steps.new ≡ steps.old + 1 }
+    ensures served { Serves scratch.old.served scratch.new.served 1 }
 {
     steps.tick();
+    scratch.served = scratch.served.saturating_add(1);
     let _nights = flow.nights();
     scratch.labels.begin(flow, false, from);
     scratch.labels.settle_until(flow, false, Some(to));
@@ -161,8 +169,10 @@ pub fn search_to<L: Ledger>(flow: &Flow, to: u32, scratch: &mut Scratch, steps: 
     requires size { length scratch.old.distances ≡ nodes flow.now }
     ensures distances { AreDistancesTo flow.now to scratch.new.distances }
     ensures counted { steps.new ≡ steps.old + 1 }
+    ensures served { Serves scratch.old.served scratch.new.served 1 }
 {
     steps.tick();
+    scratch.served = scratch.served.saturating_add(1);
     let _nights = flow.nights();
     scratch.labels.begin(flow, true, to);
     scratch.labels.settle_until(flow, true, None);

@@ -11,3 +11,4 @@ pub mod Empty
 pub mod Changed
 pub mod Indexed
 pub mod Ends
+pub mod Shortest

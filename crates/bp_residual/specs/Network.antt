@@ -1,9 +1,9 @@
 -- The interval network: nodes 0 to N, an arc for each stay, and a free arc over each night.
 use Rattle.std.specs.List.{range_with_len}
-use Rattle.std.specs.Prelude.{◌≡◌, ◌≢◌, ℕ, ◌+◌, ◌-◌, ◌*◌, ◌≤◌, ◌<◌, zero, suc, min, max, nat_le, nat_lt, if◌then◌else◌, List, [], ◌∷◌, length, map, slice_index, slice_set, All, Option, Some, None, MatchOption}
+use Rattle.std.specs.Prelude.{◌≡◌, ◌≢◌, ℕ, ◌+◌, ◌-◌, ◌*◌, ◌^◌, ◌≤◌, ◌<◌, zero, suc, min, max, nat_le, nat_lt, if◌then◌else◌, List, [], ◌∷◌, length, map, slice_index, slice_set, All, Option, Some, None, MatchOption}
+use Rattle.bp_types.specs.declared.limits.TheConstants.{MOST_PRICE}
 use Rattle.bp_types.specs.Program.{Program, stay_at, load}
 use Rattle.bp_types.specs.Limits.{IsWithinLimits}
-use Rattle.bp_types.specs.Optimum.{greatest_price}
 use Rattle.bp_residual.specs.declared.hop.Hop.{Hop}
 
 -- a program, what is sold of each stay, and the spare rooms of each night
@@ -168,14 +168,14 @@ pub record Priced : Type 0 where
 
 -- the greatest spare number of a night
 abbrev pub greatest_spare : ℕ
-greatest_spare = 1000000000000
+greatest_spare = 10 ^ 12
 
 -- the potentials end at 0, and fall by prices within the limit
 pub record ArePotentials (nights : ℕ) (potentials : List ℕ) : Type 0 where
   pub one_each : length potentials ≡ nights + 1
   pub last : slice_index potentials nights ≡ 0
   pub falls : (n : ℕ) → n < nights → slice_index potentials (n + 1) ≤ slice_index potentials n
-  pub within_limit : (n : ℕ) → n < nights → slice_index potentials n ≤ slice_index potentials (n + 1) + greatest_price
+  pub within_limit : (n : ℕ) → n < nights → slice_index potentials n ≤ slice_index potentials (n + 1) + MOST_PRICE
 
 -- every value is within its limit, and the lists belong together
 pub record IsPriced (f : Priced) : Type 0 where
@@ -183,6 +183,10 @@ pub record IsPriced (f : Priced) : Type 0 where
   pub flow : IsFlow f.flow
   pub spare : All (λ x. x ≤ greatest_spare) f.flow.spare
   pub potentials : ArePotentials (length f.flow.program.rooms) f.potentials
+
+-- how many nodes there are
+abbrev pub nodes : Priced → ℕ
+nodes p = length p.flow.program.rooms + 1
 
 -- the residual step that a hop names: arcs below the number of stays are stays, the others are free
 abbrev pub step_of : Program → Hop → Step
@@ -220,7 +224,7 @@ pub record IsLifted (nights : ℕ) (old by new : List ℕ) : Type 0 where
   pub price : (n : ℕ) → n < nights →
       slice_index new n
       ≡ slice_index new (n + 1)
-      + min ((slice_index old n + slice_index by n) - (slice_index old (n + 1) + slice_index by (n + 1))) greatest_price
+      + min ((slice_index old n + slice_index by n) - (slice_index old (n + 1) + slice_index by (n + 1))) MOST_PRICE
 
 -- the reduced cost of a step that has room for a unit; None where it has none
 abbrev pub IsCost : Priced → Step → Option ℕ → Type 0
@@ -246,11 +250,15 @@ abbrev pub NamesArcsOnce : List Hop → Type 0
 NamesArcsOnce [] = Unit {0}
 NamesArcsOnce (h ∷ hs) = All (λ g. g.arc ≢ h.arc) hs × NamesArcsOnce hs
 
+-- the room over a free arc forward, which has no limit: the greatest u64
+abbrev pub no_limit : ℕ
+no_limit = 2 ^ 64 - 1
+
 -- how many units the step has room for
 abbrev pub room_of : Flow → Step → ℕ
 room_of f (sell_more j) = (stay_at f.program j).forecast - slice_index f.sell j
 room_of f (sell_less j) = slice_index f.sell j
-room_of f (spare_more n) = 18446744073709551615
+room_of f (spare_more n) = no_limit
 room_of f (spare_less n) = slice_index f.spare n
 
 -- the same flow and potentials on another program

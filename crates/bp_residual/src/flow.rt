@@ -3,7 +3,7 @@ ghost use Rattle.bp_residual.specs.Network.{Priced, IsPriced, IsLifted, step_of,
 ghost use Rattle.bp_residual.specs.Index.{AreHopsAt};
 ghost use Rattle.bp_types.specs.Program.{worth, stay_at};
 ghost use Rattle.std.specs.List.{range_with_len};
-ghost use Rattle.bp_types.specs.Limits.{most_rooms, most_rate, most_forecast};
+ghost use Rattle.bp_types.specs.declared.limits.TheConstants.{MOST_UNITS, MOST_RATE, MOST_FORECAST};
 ghost use Rattle.bp_types.specs.Changes.{changed, Fits};
 ghost use Rattle.bp_types.specs.declared.change.Change.TheVariants.{Rooms, Demand, Rate};
 
@@ -53,7 +53,7 @@ fn prices(alloc: Global, potentials: &[u64]) -> Result<Vec<u64>, Memory>
 fn greatest_rate(instance: &Instance) -> u64
     ensures greatest { result ≡ greatest_rate instance.now }
     ensures dear { (j : ℕ) → j < length instance.now.stays → (stay_at instance.now j).rate ≤ result }
-    ensures limit { result ≤ 1000000000 }
+    ensures limit { result ≤ MOST_RATE }
 {
     let mut greatest = 0;
     for stay in 0..instance.stays() {
@@ -373,7 +373,7 @@ impl Flow {
     pub fn rooms(&self, night: u32) -> u64
         requires { night < length self.now.flow.program.rooms }
         ensures value { result ≡ slice_index self.now.flow.program.rooms night }
-        ensures limit { result ≤ most_rooms }
+        ensures limit { result ≤ MOST_UNITS }
     {
         self.instance.rooms(night)
     }
@@ -381,7 +381,7 @@ impl Flow {
     /// Sets the rooms of one night, in units.
     pub fn set_rooms(&mut self, night: u32, rooms: u64)
         requires night { night < length self.old.flow.program.rooms }
-        requires rooms { rooms ≤ most_rooms }
+        requires rooms { rooms ≤ MOST_UNITS }
         ensures { self.new ≡ with_program self.old (with_rooms self.old.flow.program night rooms) }
     {
         set_rooms(&mut self.instance, night, rooms);
@@ -399,7 +399,7 @@ impl Flow {
     pub fn set_rate(&mut self, stay: u32, rate: u64)
         requires stay { stay < length self.old.flow.program.stays }
         requires unasked { (stay_at self.old.flow.program stay).forecast ≡ 0 }
-        requires rate { (1 ≤ rate) × (rate ≤ most_rate) }
+        requires rate { (1 ≤ rate) × (rate ≤ MOST_RATE) }
         ensures { self.new ≡ with_program self.old (changed self.old.flow.program (Rate stay rate)) }
     {
         self.instance.apply(Change::Rate { stay, value: rate });
@@ -408,7 +408,7 @@ impl Flow {
     /// Sets the forecast of a stay, in units.
     pub fn set_forecast(&mut self, stay: u32, value: u64)
         requires stay { stay < length self.old.flow.program.stays }
-        requires value { value ≤ most_forecast }
+        requires value { value ≤ MOST_FORECAST }
         requires sold { slice_index self.old.flow.sell stay ≤ value }
         ensures { self.new ≡ with_program self.old (changed self.old.flow.program (Demand stay value)) }
     {
@@ -423,6 +423,13 @@ impl Flow {
     {
         let place = stay as usize;
         self.sell[place] = units;
+    }
+
+    /// The revenue of the allocation, in minor units of money times the unit.
+    pub fn worth(&self) -> u128
+        ensures { result ≡ worth self.now.flow.program self.now.flow.sell }
+    {
+        self.instance.worth(&self.sell)
     }
 
     /// The allocation, the prices, and the revenue as the value of both.

@@ -1,12 +1,13 @@
 ghost use Rattle.std.specs.Prelude.{◌≡◌, ℕ, ◌≤◌, ◌<◌, length, slice_index, slice_set};
-ghost use Rattle.bp_types.specs.Limits.{most_rooms, IsWithinLimits};
+ghost use Rattle.bp_types.specs.declared.limits.TheConstants.{MOST_UNITS};
+ghost use Rattle.bp_types.specs.Limits.{IsWithinLimits};
 
 use bp_types::{Change, Instance, Span};
 
 /// Sets the rooms of one night.
 pub(crate) fn set_rooms(instance: &mut Instance, night: u32, rooms: u64)
     requires night { night < length instance.old.rooms }
-    requires rooms { rooms ≤ most_rooms }
+    requires rooms { rooms ≤ MOST_UNITS }
     ensures rooms { instance.new.rooms ≡ slice_set instance.old.rooms night rooms }
     ensures stays { instance.new.stays ≡ instance.old.stays }
     ensures limits { IsWithinLimits instance.new }

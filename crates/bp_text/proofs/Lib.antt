@@ -7,3 +7,5 @@ pub mod StageLemmas
 pub mod WholeLemmas
 pub mod SpellingLemmas
 pub mod OneWayLemmas
+pub mod DraftLemmas
+pub mod WordLemmas

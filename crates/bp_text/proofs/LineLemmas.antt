@@ -8,17 +8,17 @@ use Rattle.bp_text.specs.Forms.{IsEndOrSpace, IsWordAhead}
 use Rattle.bp_text.proofs.NumberLemmas.{spelled_is_digits, spelled_injective}
 
 -- no byte of a number is this one
-spelled_lacks : (stop n : ℕ) → stop < 48 → All (λ b. b ≡ stop → ⊥) (spelled n)
+pub spelled_lacks : (stop n : ℕ) → stop < 48 → All (λ b. b ≡ stop → ⊥) (spelled n)
 spelled_lacks stop n small k d h e =
     let digit = spelled_is_digits n k h in
     let at = get_or_default (spelled n) k d 0 h in
     omega (arith, digit.0, at, e)
 
-lacks_tail : (stop b : ℕ) (bs : List ℕ) → All (λ x. x ≡ stop → ⊥) (b ∷ bs) → All (λ x. x ≡ stop → ⊥) bs
+pub lacks_tail : (stop b : ℕ) (bs : List ℕ) → All (λ x. x ≡ stop → ⊥) (b ∷ bs) → All (λ x. x ≡ stop → ⊥) bs
 lacks_tail stop b bs all k d h = all (suc k) d (omega arith)
 
 -- where two texts are the same, and a stop ends each first word, the words are the same
-same_word : (xs ys r s : List ℕ) → All (λ b. b ≡ 32 → ⊥) xs → All (λ b. b ≡ 32 → ⊥) ys → IsEndOrSpace r → IsEndOrSpace s → xs ++ r ≡ ys ++ s → (xs ≡ ys) × (r ≡ s)
+pub same_word : (xs ys r s : List ℕ) → All (λ b. b ≡ 32 → ⊥) xs → All (λ b. b ≡ 32 → ⊥) ys → IsEndOrSpace r → IsEndOrSpace s → xs ++ r ≡ ys ++ s → (xs ≡ ys) × (r ≡ s)
 same_word [] [] r s no_x no_y end_r end_s e = (refl, e)
 same_word [] (y ∷ ys) r s no_x no_y (inl none) end_s e = let f : [] ≡ y ∷ (ys ++ s) = sym none ∙ e in absurd (cc)
 same_word [] (y ∷ ys) r s no_x no_y (inr (more, space)) end_s e = absurd (no_y 0 0 (omega arith) (ap (λ bs. get_or bs 0 0) (sym e ∙ space)))

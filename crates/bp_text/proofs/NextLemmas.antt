@@ -1,4 +1,4 @@
--- Lines with a wrong count of numbers.
+-- What the readers of one line cite: why a line is refused.
 use Rattle.std.proofs.Common.{◌≡◌, ℕ, ◌<◌, ◌≤◌, All, [], ◌∷◌, ◌++◌, drop, slice_index, refl, ◌∙◌, ap, sym, subst, arith, Bool, cond, ◌==◌, List, length, inl, inr}
 use Rattle.std.specs.Prelude.{Err}
 use Rattle.std.proofs.lemmas.List.{append-nil, append_cancel_left}
@@ -39,7 +39,7 @@ great_is_refused word bounds old new line ms count place e gives counted is long
     ]
 
 -- one number behind a word
-one_number-line : (word : List ℕ) (n : ℕ) → line_of word (n ∷ []) ≡ word ++ 32 ∷ spelled n
+pub one_number-line : (word : List ℕ) (n : ℕ) → line_of word (n ∷ []) ≡ word ++ 32 ∷ spelled n
 one_number-line word n = ap (λ xs. word ++ xs) (append-nil (32 ∷ spelled n))
 
 behind_space : (text : List ℕ) → 0 < length text → slice_index text 0 ≡ 32 → text ≡ 32 ∷ drop 1 text
@@ -82,5 +82,32 @@ great_number word greatest old new line place n gives counted great is = record 
   form = refl;
   outside = λ all. omega (arith, all 0 0 (omega arith), great);
   gives = (let R : Line → Type 0 = λ l. GivesLine old new l in subst R is gives);
+  counted = counted;
+}
+
+pub word_alone : (word : List ℕ) → line_of word [] ≡ word
+word_alone word = append-nil word
+
+pub no_numbers : (ns : List ℕ) → length ns ≡ 0 → ns ≡ []
+no_numbers [] e = refl
+no_numbers (n ∷ ns) e = absurd (omega (arith, e))
+
+-- a line that is another than the word
+pub other_word : (word : List ℕ) (old new : Given) (line : Line) (place : ℕ) → GivesLine old new line → place ≡ new.given → (line ≡ word → ⊥) → IsBadLine word (λ ns. length ns ≡ 0) old new place
+other_word word old new line place gives counted other = record {
+  line = line;
+  gives = gives;
+  wrong = λ ns none e. other (e ∙ ap (line_of word) (no_numbers ns none) ∙ word_alone word);
+  counted = counted;
+}
+
+-- a number below the least
+pub small_number : (word : List ℕ) (least greatest : ℕ) (old new : Given) (place n : ℕ) → GivesLine old new (line_of word (n ∷ [])) → place ≡ new.given → n < least →
+    IsBeyond word (λ ns. length ns ≡ 1) (λ ns. All (λ n. (least ≤ n) × (n ≤ greatest)) ns) old new place
+small_number word least greatest old new place n gives counted small = record {
+  numbers = n ∷ [];
+  form = refl;
+  outside = λ all. omega (arith, (all 0 0 (omega arith)).0, small);
+  gives = gives;
   counted = counted;
 }

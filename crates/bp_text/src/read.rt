@@ -62,18 +62,18 @@ fn wrong_numbers(count: u64, bounds: Bounds, place: u64) -> TextError
 }
 
 /// The next line, which is a word alone.
-pub fn word_line(
-    lines: &mut Lines<'_>,
-    word: &[u8],
-    numbers: &mut Vec<u64>,
-) -> Result<(), TextError>
+pub fn word_line(lines: &mut Lines<'_>, word: &[u8]) -> Result<(), TextError>
     ensures { IsLine word.now (λ ns. length ns ≡ 0) (λ _. Unit {0}) lines.old lines.new (holding [] result) }
 {
-    let none = Bounds {
-        most: 0,
-        greatest: 0,
+    let Some(line) = lines.take_line() else {
+        return Err(TextError::TooShort);
     };
-    exact_line(lines, word, none, numbers)
+    let place = lines.given();
+    if line == word {
+        Ok(())
+    } else {
+        Err(TextError::BadLine { line: place })
+    }
 }
 
 /// The next line, which is a word and one number.
@@ -82,13 +82,10 @@ pub fn number_line(
     word: &[u8],
     least: u64,
     greatest: u64,
-    numbers: &mut Vec<u64>,
 ) -> Result<u64, TextError>
     ensures { IsLine word.now (λ ns. length ns ≡ 1) (λ ns. All (λ n. (least ≤ n) × (n ≤ greatest)) ns) lines.old lines.new (seen_as (λ n. n ∷ []) result) }
 {
-    let one = Bounds { most: 1, greatest };
-    exact_line(lines, word, one, numbers)?;
-    let number = numbers[0];
+    let number = wide_number_line(lines, word, u128::from(greatest))? as u64;
     if number < least {
         return Err(TextError::Limit {
             line: lines.given(),

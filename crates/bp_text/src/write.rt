@@ -3,11 +3,8 @@ ghost use Rattle.std.specs.Prelude.{◌≤◌, IsErrOf};
 ghost use Rattle.bp_edges.specs.Counts.{Rose};
 ghost use Rattle.bp_edges.specs.Writing.{Writes};
 
-use bp_edges::{Sink, WriteError};
+use bp_edges::{MOST_PIECE, Sink, WriteError};
 use std::alloc::Global;
-
-/// The most bytes that are put at once.
-const PIECE: usize = 65_536;
 
 /// Writes a text, in pieces of at most 65,536 bytes.
 pub fn write_text<K: Sink>(alloc: Global, text: &[u8], out: &mut K) -> Result<(), WriteError>
@@ -18,8 +15,8 @@ pub fn write_text<K: Sink>(alloc: Global, text: &[u8], out: &mut K) -> Result<()
     ensures faults { K.faults out.old ≤ K.faults out.new }
 {
     let mut rest = text;
-    while rest.len() > PIECE {
-        let (piece, more) = rest.split_at(PIECE);
+    while rest.len() > MOST_PIECE {
+        let (piece, more) = rest.split_at(MOST_PIECE);
         out.put(alloc, piece)?;
         rest = more;
     }

@@ -1,15 +1,7 @@
 -- Changes that are made in two goes.
-use Rattle.std.proofs.Common.{refl, arith, [], ◌∷◌}
+use Rattle.std.proofs.Common.{arith, [], ◌∷◌}
 use Rattle.bp_types.specs.Changes.{changed}
-use Rattle.bp_warm.specs.Laws.{ChangesJoin, FitsJoin, UnitsJoin}
-
-pub changes_join : ChangesJoin
-changes_join p [] second = refl
-changes_join p (c ∷ first) second = changes_join (changed p c) first second
-
-pub fits_join : FitsJoin
-fits_join p [] second fits then = then
-fits_join p (c ∷ first) second fits then = (fits.0, fits_join (changed p c) first second fits.1 then)
+use Rattle.bp_warm.specs.Laws.{UnitsJoin}
 
 pub units_join : UnitsJoin
 units_join p [] second = omega arith

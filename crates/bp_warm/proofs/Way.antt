@@ -1,12 +1,16 @@
 -- How far a list of changes has been made.
-use Rattle.std.proofs.Common.{◌≡◌, ℕ, ◌+◌, ◌≤◌, List}
+use Rattle.std.proofs.Common.{◌≡◌, ℕ, ◌-◌, ◌≤◌, List}
 use Rattle.bp_types.specs.declared.change.Change.{Change}
 use Rattle.bp_types.specs.Program.{Program}
-use Rattle.bp_warm.specs.Turns.{changed_by_all, FitInTurn, units_moved_by_all}
+use Rattle.bp_types.specs.Changes.{changed_by_all, FitInTurn}
+use Rattle.bp_warm.specs.Turns.{units_moved_by_all}
 
--- the changes that are left fit, lead to the program that is wanted, and keep to the count
-pub record IsOnWay (start : Program) (all : List Change) (first : ℕ) (here : Program) (left : List Change) (now : ℕ) : Type 0 where
+-- the changes that are left fit, and lead to the program that is wanted
+pub record IsOnWay (start : Program) (all : List Change) (here : Program) (left : List Change) : Type 0 where
   pub leads : changed_by_all here left ≡ changed_by_all start all
   pub fit : FitInTurn here left
-  pub counted : first ≤ now
-  pub within : now + units_moved_by_all here left ≤ first + units_moved_by_all start all
+  pub fewer : units_moved_by_all here left ≤ units_moved_by_all start all
+
+-- what the changes that were made have moved at most
+abbrev pub moved_so_far : Program → List Change → Program → List Change → ℕ
+moved_so_far start all here left = units_moved_by_all start all - units_moved_by_all here left

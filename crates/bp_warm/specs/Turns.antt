@@ -1,20 +1,10 @@
--- Changes that are made one after another.
+-- What changes move that are made one after another.
 use Rattle.std.specs.Prelude.{ℕ, ◌+◌, ◌*◌, List, [], ◌∷◌}
 use Rattle.bp_types.specs.declared.change.Change.{Change}
 use Rattle.bp_types.specs.declared.change.Change.TheVariants.{Rooms, Demand, Rate}
 use Rattle.bp_types.specs.Program.{Program, stay_at}
-use Rattle.bp_types.specs.Changes.{changed, Fits}
+use Rattle.bp_types.specs.Changes.{changed}
 use Rattle.bp_flow.specs.Solvers.{difference}
-
--- the program after the changes, in their order
-abbrev pub changed_by_all : Program → List Change → Program
-changed_by_all p [] = p
-changed_by_all p (c ∷ cs) = changed_by_all (changed p c) cs
-
--- each change keeps to the limits of the program that it comes to
-abbrev pub FitInTurn : Program → List Change → Type 0
-FitInTurn p [] = Unit {0}
-FitInTurn p (c ∷ cs) = Fits p c × FitInTurn (changed p c) cs
 
 -- how many units a change of the program moves at most
 abbrev pub units_moved : Program → Change → ℕ

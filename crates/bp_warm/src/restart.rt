@@ -1,8 +1,8 @@
 ghost use Rattle.std.specs.Prelude.{◌≡◌, ◌+◌};
-ghost use Rattle.bp_types.specs.Changes.{changed, Fits};
+ghost use Rattle.bp_types.specs.Changes.{changed, changed_by_all, Fits, FitInTurn};
 ghost use Rattle.bp_flow.specs.Settled.{IsSettled, IsSolvable};
-ghost use Rattle.bp_flow.specs.Solvers.{CountsUpTo, IsSolved};
-ghost use Rattle.bp_warm.specs.Turns.{FitInTurn, changed_by_all, units_moved, units_moved_by_all};
+ghost use Rattle.bp_flow.specs.Solvers.{CountsSearches, IsSolved};
+ghost use Rattle.bp_warm.specs.Turns.{units_moved, units_moved_by_all};
 
 use bp_flow::Solver;
 use bp_types::{Change, Steps};
@@ -18,7 +18,7 @@ pub fn catch_up<L: Ledger>(solver: &mut Solver, changes: &[Change], steps: &mut 
     ensures settled { IsSettled solver.new }
     ensures solved { IsSolved solver.new }
     ensures solvable { IsSolvable solver.new.flow.program }
-    ensures counted { CountsUpTo steps.old steps.new (units_moved_by_all solver.old.flow.program changes.now + 1) }
+    ensures counted { CountsSearches steps.old steps.new solver.old.served solver.new.served (units_moved_by_all solver.old.flow.program changes.now + 1) }
 {
     for change in changes {
         make(solver, *change, steps);
@@ -30,7 +30,7 @@ pub fn catch_up<L: Ledger>(solver: &mut Solver, changes: &[Change], steps: &mut 
 fn make<L: Ledger>(solver: &mut Solver, change: Change, steps: &mut Steps<L>)
     requires { Fits solver.old.flow.program change }
     ensures program { solver.new.flow.program ≡ changed solver.old.flow.program change }
-    ensures counted { CountsUpTo steps.old steps.new (units_moved solver.old.flow.program change) }
+    ensures counted { CountsSearches steps.old steps.new solver.old.served solver.new.served (units_moved solver.old.flow.program change) }
 {
     match change {
         Change::Rooms {

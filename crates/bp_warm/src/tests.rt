@@ -1,6 +1,6 @@
 ghost use Rattle.std.specs.Prelude.{◌≡◌, ◌+◌, ◌<◌, ◌≤◌, length, slice_index, IsTrue, MatchBool};
+ghost use Rattle.bp_types.specs.declared.limits.TheConstants.{MOST_UNITS};
 ghost use Rattle.bp_types.specs.declared.change.Change.TheVariants.{Rooms};
-ghost use Rattle.bp_types.specs.Limits.{most_rooms};
 ghost use Rattle.bp_types.specs.Changes.{Fits};
 ghost use Rattle.bp_flow.specs.Settled.{IsSettled};
 ghost use Rattle.bp_warm.specs.Turns.{units_moved};
@@ -78,7 +78,7 @@ fn instance_of(alloc: Global) -> Result<Instance, Fail> {
 
 fn night_takes(instance: &Instance, night: u32, up: bool, units: u64) -> bool
     requires { night < length instance.now.rooms }
-    ensures { IsTrue result → MatchBool up (slice_index instance.now.rooms night + units ≤ most_rooms) (units ≤ slice_index instance.now.rooms night) }
+    ensures { IsTrue result → MatchBool up (slice_index instance.now.rooms night + units ≤ MOST_UNITS) (units ≤ slice_index instance.now.rooms night) }
 {
     let rooms = instance.rooms(night);
     if up {

@@ -1,6 +1,6 @@
 use Rattle.std.proofs.Common.{◌≡◌, ◌-◌, ◌≤◌, length}
 use Rattle.bp_flow.specs.Shift.{IsShifting}
-use Rattle.bp_flow.specs.Solvers.{CountsUpTo}
+use Rattle.bp_flow.specs.Solvers.{CountsSearches}
 use Rattle.bp_flow.proofs.moves.shift.Given as goal
 
 abbrev pub invariant-loop-left : goal.invariant-loop-left
@@ -8,7 +8,7 @@ invariant-loop-left g l =
     IsShifting l.fn.flow l.flow l.from l.to l.left
     × (l.left ≤ l.units)
     × (length l.scratch.distances ≡ length l.fn.scratch.distances)
-    × CountsUpTo l.fn.steps l.steps (l.units - l.left)
+    × CountsSearches l.fn.steps l.steps l.fn.scratch.served l.scratch.served (l.units - l.left)
 
 abbrev pub decreases-loop-left : goal.decreases-loop-left
 decreases-loop-left g l = l.left

@@ -2,8 +2,8 @@ use Rattle.std.proofs.Common.{◌≡◌, ℕ, ◌<◌, ◌∙◌, sym, subst, fa
 use Rattle.std.proofs.lemmas.List.{get_or_default, with_items_is}
 use Rattle.std.specs.Vec.{with_items}
 use Rattle.bp_residual.specs.declared.hop.Hop.{Hop}
-use Rattle.bp_paths.specs.Labels.{far, IsTracedPath}
-use Rattle.bp_paths.specs.Paths.{AreDistances, AreDistancesUpTo, IsShortestPath}
+use Rattle.bp_paths.specs.Labels.{IsTracedPath}
+use Rattle.bp_paths.specs.Paths.{AreDistances, AreDistancesUpTo, IsShortestPath, far}
 use Rattle.bp_paths.proofs.Distances.{none_open, near_is_settled}
 use Rattle.bp_paths.proofs.Answer.{are_distances, are_distances_up_to, is_shortest}
 use Rattle.bp_paths.proofs.searches.search.Goals as goal
@@ -45,6 +45,7 @@ returns-clause-found g c =
     let d : AreDistancesUpTo c.args.flow.now c.args.from (slice_index kept c.args.to) kept = subst P from_is (are_distances_up_to c.args.flow.now _ _ _ _ _ _ c.nights-nights.ensures.priced.limits c.settle_until.ensures.labels c.settle_until.ensures.done near) in
     let slots_len : length c.path_to-start.new.slots ≡ c.scratch.inside.slots.len = search rules in
     let items : (with_items c.scratch.inside.slots c.path_to-start.new.slots).items ≡ c.path_to-start.new.slots = with_items_is c.scratch.inside.slots c.path_to-start.new.slots slots_len in
-    let R : List Hop → Type 0 = λ hs. IsShortestPath c.args.flow.now c.args.from c.args.to c.path_to-start.result.1 (record { distances = kept; path = drop c.path_to-start.result.0 hs }) in
-    let found = is_shortest c.args.flow.now c.args.from c.args.to c.path_to-start.result.1 kept rank path near d (subst Q from_is c.path_to-start.ensures.path) c.path_to-start.ensures.admits c.path_to-start.ensures.some c.path_to-start.ensures.least in
+    let served : ℕ = c.saturating_add-scratch-inside.result in
+    let R : List Hop → Type 0 = λ hs. IsShortestPath c.args.flow.now c.args.from c.args.to c.path_to-start.result.1 (record { distances = kept; path = drop c.path_to-start.result.0 hs; served = served }) in
+    let found = is_shortest c.args.flow.now c.args.from c.args.to c.path_to-start.result.1 served kept rank path near d (subst Q from_is c.path_to-start.ensures.path) c.path_to-start.ensures.admits c.path_to-start.ensures.some c.path_to-start.ensures.least in
     (subst R (sym items) found, d)

@@ -1,6 +1,5 @@
 use Rattle.std.proofs.Common.{ℕ, ◌∙◌, subst, arith}
-use Rattle.bp_paths.specs.Labels.{far}
-use Rattle.bp_paths.specs.Paths.{AreDistancesTo}
+use Rattle.bp_paths.specs.Paths.{AreDistancesTo, far}
 use Rattle.bp_paths.proofs.Distances.{none_open}
 use Rattle.bp_paths.proofs.Answer.{are_distances_to}
 use Rattle.bp_paths.proofs.searches.search_to.Goals as goal

@@ -7,6 +7,7 @@ use Rattle.bp_types.specs.declared.change.Change.{Change}
 use Rattle.bp_types.specs.declared.command.Limits.{Limits}
 use Rattle.bp_types.specs.declared.command.Command.TheVariants.{Book}
 use Rattle.bp_types.specs.Program.{no_stay}
+use Rattle.bp_types.specs.Spans.{first_short}
 use Rattle.bp_ledger.specs.Inventory.{Inventory, HasLeft, taken}
 use Rattle.bp_core.specs.declared.line.Act.TheVariants.{Do}
 use Rattle.bp_core.specs.declared.line.Line.{Line}
@@ -14,7 +15,7 @@ use Rattle.bp_core.specs.Acting.{Diary, MayDo, plain_line}
 use Rattle.bp_core.specs.Answer.{book_reply}
 use Rattle.bp_core.specs.Changes.{changes_between, changes_after}
 use Rattle.bp_core.specs.Lines.{last_position, is_accepted}
-use Rattle.bp_core.specs.Instance.{forecast_of, first_without}
+use Rattle.bp_core.specs.Instance.{forecast_of, left_at}
 use Rattle.bp_core.specs.Keeping.{inventory_of, fate_by}
 use Rattle.bp_core.proofs.Counts.{has_room}
 use Rattle.bp_core.proofs.Answering.{pushed}
@@ -60,7 +61,7 @@ take-requires-clause-left c =
     let inside : c.stay.result.span.to ≤ length c.self.inside.house.rooms = omega (arith, spans.1, ap (λ (s : Span). s.to) span) in
     let reply = c.book_reply-reply.ensures ∙ ap (λ (b : Diary). book_reply b.house b.history c.args.stay) (sym c.self.view_is) in
     let accepted = sym c.is_accepted.ensures ∙ c.if-is_accepted.true in
-    let none = ap (λ s. first_without c.self.inside.house c.self.inside.log.lines s 1) span ∙ accepted_has_room c.self.inside.house c.self.inside.log.lines c.args.stay (sym (ap is_accepted reply) ∙ accepted) in
+    let none = ap (λ s. first_short (left_at c.self.inside.house c.self.inside.log.lines) s 1) span ∙ accepted_has_room c.self.inside.house c.self.inside.log.lines c.args.stay (sym (ap is_accepted reply) ∙ accepted) in
     let P : Inventory → Type 0 = λ v. HasLeft v c.stay.result.span 1 in
     subst P (sym c.self.invariant.stock) (stock_has_left c.self.inside.house c.self.inside.log.lines c.stay.result.span 1 inside none)
 

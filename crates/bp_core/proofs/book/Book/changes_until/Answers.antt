@@ -1,9 +1,9 @@
 use Rattle.std.proofs.Common.{◌≡◌, ◌∙◌, ◌+◌, ◌≤◌, ap, sym, subst, arith, length, List}
 use Rattle.bp_types.specs.declared.change.Change.{Change}
+use Rattle.bp_types.specs.Changes.{Leads}
 use Rattle.bp_core.specs.Acting.{Diary}
 use Rattle.bp_core.specs.Changes.{deltas_between}
 use Rattle.bp_core.specs.Instance.{instance_at}
-use Rattle.bp_core.specs.Leading.{Leads}
 use Rattle.bp_core.specs.Log.{kept_between}
 use Rattle.bp_core.proofs.Between.{deltas_lead}
 use Rattle.bp_core.proofs.KeptBetween.{kept_is_between}

@@ -1,9 +1,10 @@
 use Rattle.std.proofs.Common.{◌∙◌, ◌<◌, ◌≤◌, ap, sym, subst, arith, length, refl}
 use Rattle.std.proofs.lemmas.Bool.{and_parts, ltb-true, leb-true}
 use Rattle.bp_types.specs.declared.command.Command.TheVariants.{Group}
-use Rattle.bp_ledger.specs.Inventory.{Inventory, first_short}
+use Rattle.bp_types.specs.Spans.{first_short}
+use Rattle.bp_core.specs.Instance.{left_at}
+use Rattle.bp_ledger.specs.Inventory.{Inventory, left_on}
 use Rattle.bp_core.specs.Acting.{Diary, MayDo, command_refusal}
-use Rattle.bp_core.specs.Instance.{first_without}
 use Rattle.bp_core.specs.Log.{Logged}
 use Rattle.bp_core.proofs.Counts.{has_room}
 use Rattle.bp_core.proofs.Answering.{command_is_logged, done_logged, done_refused}
@@ -31,7 +32,7 @@ invariant_of-self c =
     let spans = and_parts _ _ (and_parts _ _ may.in_range).0 in
     let ordered : c.args.span.from < c.args.span.to = ltb-true _ _ spans.0 in
     let inside : c.args.span.to ≤ length c.self.inside.house.rooms = leb-true _ _ spans.1 in
-    let first = c.first_full.ensures ∙ ap (λ (v : Inventory). first_short v c.args.span c.args.rooms) c.self.invariant.stock ∙ first_of_stock c.self.inside.house c.self.inside.log.lines c.args.span c.args.rooms ordered inside in
+    let first = c.first_full.ensures ∙ ap (λ (v : Inventory). first_short (left_on v) c.args.span c.args.rooms) c.self.invariant.stock ∙ first_of_stock c.self.inside.house c.self.inside.log.lines c.args.span c.args.rooms ordered inside in
     let night = sym first ∙ c.in-Some.is in
     kept_more _ _ _ _ _ _ _ _ _ _ _ _ c.self.invariant (group_is_legal _ _ c.args.caller c.args.rooms c.args.amount c.args.span _ c.self.invariant.legal may.caller_may may.in_range may.not_full (no_room_reply c.self.inside.house c.self.inside.log.lines c.args.span c.args.rooms c.args.amount c.in-Some.night night)) c.logged.ensures.log (no_room_follows _ _ _ _ _ _ c.args.caller c.args.rooms c.args.amount c.in-Some.night c.args.span c.self.invariant)
 
@@ -41,7 +42,7 @@ returns-in-Some c =
     let spans = and_parts _ _ (and_parts _ _ may.in_range).0 in
     let ordered : c.args.span.from < c.args.span.to = ltb-true _ _ spans.0 in
     let inside : c.args.span.to ≤ length c.self.inside.house.rooms = leb-true _ _ spans.1 in
-    let first = c.first_full.ensures ∙ ap (λ (v : Inventory). first_short v c.args.span c.args.rooms) c.self.invariant.stock ∙ first_of_stock c.self.inside.house c.self.inside.log.lines c.args.span c.args.rooms ordered inside in
+    let first = c.first_full.ensures ∙ ap (λ (v : Inventory). first_short (left_on v) c.args.span c.args.rooms) c.self.invariant.stock ∙ first_of_stock c.self.inside.house c.self.inside.log.lines c.args.span c.args.rooms ordered inside in
     let night = sym first ∙ c.in-Some.is in
     let none = ap (λ (b : Diary). command_refusal b.house b.history (Group c.args.span c.args.rooms c.args.amount) c.args.quoted) (sym c.self.view_is) ∙ refusal_none c.self.inside.house c.self.inside.log.lines c.args.span c.args.rooms c.args.amount c.in-Some.night c.args.quoted night in
     done_logged _ _ c.args.caller (Group c.args.span c.args.rooms c.args.amount) c.args.quoted _ none (command_is_logged _ _ _ _ _ _ _ _ _ c.self.view_is c.logged.ensures.answer (no_room_reply c.self.inside.house c.self.inside.log.lines c.args.span c.args.rooms c.args.amount c.in-Some.night night) (ap (λ (l : Logged). l.lines) c.logged.ensures.log))
@@ -52,8 +53,8 @@ quoted_group-requires-clause-rooms c =
     let spans = and_parts _ _ (and_parts _ _ may.in_range).0 in
     let ordered : c.args.span.from < c.args.span.to = ltb-true _ _ spans.0 in
     let inside : c.args.span.to ≤ length c.self.inside.house.rooms = leb-true _ _ spans.1 in
-    let first = c.first_full.ensures ∙ ap (λ (v : Inventory). first_short v c.args.span c.args.rooms) c.self.invariant.stock ∙ first_of_stock c.self.inside.house c.self.inside.log.lines c.args.span c.args.rooms ordered inside in
-    ap (λ (b : Diary). first_without b.house b.history c.args.span c.args.rooms) (sym c.self.view_is) ∙ sym first ∙ c.in-None.is
+    let first = c.first_full.ensures ∙ ap (λ (v : Inventory). first_short (left_on v) c.args.span c.args.rooms) c.self.invariant.stock ∙ first_of_stock c.self.inside.house c.self.inside.log.lines c.args.span c.args.rooms ordered inside in
+    ap (λ (b : Diary). first_short (left_at b.house b.history) c.args.span c.args.rooms) (sym c.self.view_is) ∙ sym first ∙ c.in-None.is
 
 pub returns-in-None-quoted : goal.returns-in-None-quoted
 returns-in-None-quoted c =
@@ -61,6 +62,6 @@ returns-in-None-quoted c =
     let spans = and_parts _ _ (and_parts _ _ may.in_range).0 in
     let ordered : c.args.span.from < c.args.span.to = ltb-true _ _ spans.0 in
     let inside : c.args.span.to ≤ length c.self.inside.house.rooms = leb-true _ _ spans.1 in
-    let first = c.first_full.ensures ∙ ap (λ (v : Inventory). first_short v c.args.span c.args.rooms) c.self.invariant.stock ∙ first_of_stock c.self.inside.house c.self.inside.log.lines c.args.span c.args.rooms ordered inside in
+    let first = c.first_full.ensures ∙ ap (λ (v : Inventory). first_short (left_on v) c.args.span c.args.rooms) c.self.invariant.stock ∙ first_of_stock c.self.inside.house c.self.inside.log.lines c.args.span c.args.rooms ordered inside in
     let refused = ap (λ (b : Diary). command_refusal b.house b.history (Group c.args.span c.args.rooms c.args.amount) c.args.quoted) (sym c.self.view_is) ∙ refusal_unquoted c.self.inside.house c.self.inside.log.lines c.args.span c.args.rooms c.args.amount c.args.quoted (sym first ∙ c.in-None.is) c.in-None-quoted.is in
     done_refused c.args.self.now c.args.self.now c.args.caller (Group c.args.span c.args.rooms c.args.amount) c.args.quoted _ refused refl

@@ -3,13 +3,14 @@ use Rattle.std.proofs.lemmas.Bool.{and_parts, ltb-true, leb-true}
 use Rattle.bp_types.specs.declared.change.Change.TheVariants.{Rooms}
 use Rattle.bp_types.specs.declared.command.Limits.{Limits}
 use Rattle.bp_types.specs.declared.command.Command.TheVariants.{Group}
+use Rattle.bp_types.specs.Spans.{first_short}
+use Rattle.bp_core.specs.Instance.{left_at}
 use Rattle.bp_ledger.specs.Inventory.{Inventory, HasLeft}
 use Rattle.bp_core.specs.declared.line.Act.TheVariants.{Do}
 use Rattle.bp_core.specs.declared.line.Reply.TheVariants.{GroupAccepted}
 use Rattle.bp_core.specs.declared.line.Line.{Line}
 use Rattle.bp_core.specs.Acting.{Diary, MayDo, IsQuoteFor, command_refusal, plain_line}
 use Rattle.bp_core.specs.Changes.{changes_after}
-use Rattle.bp_core.specs.Instance.{first_without}
 use Rattle.bp_core.specs.Log.{Logged}
 use Rattle.bp_core.proofs.Counts.{has_room}
 use Rattle.bp_core.proofs.Answering.{pushed, command_is_logged, done_logged}
@@ -41,7 +42,7 @@ take-requires-clause-left c =
     let spans = and_parts _ _ (and_parts _ _ may.in_range).0 in
     let ordered : c.args.span.from < c.args.span.to = ltb-true _ _ spans.0 in
     let inside : c.args.span.to ≤ length c.self.inside.house.rooms = leb-true _ _ spans.1 in
-    let first = ap (λ (b : Diary). first_without b.house b.history c.args.span c.args.rooms) c.self.view_is ∙ c.requires.rooms in
+    let first = ap (λ (b : Diary). first_short (left_at b.house b.history) c.args.span c.args.rooms) c.self.view_is ∙ c.requires.rooms in
     let P : Inventory → Type 0 = λ v. HasLeft v c.args.span c.args.rooms in
     subst P (sym c.self.invariant.stock) (stock_has_left c.self.inside.house c.self.inside.log.lines c.args.span c.args.rooms inside first)
 
@@ -51,7 +52,7 @@ invariant_of-self c =
     let spans = and_parts _ _ (and_parts _ _ may.in_range).0 in
     let ordered : c.args.span.from < c.args.span.to = ltb-true _ _ spans.0 in
     let inside : c.args.span.to ≤ length c.self.inside.house.rooms = leb-true _ _ spans.1 in
-    let first = ap (λ (b : Diary). first_without b.house b.history c.args.span c.args.rooms) c.self.view_is ∙ c.requires.rooms in
+    let first = ap (λ (b : Diary). first_short (left_at b.house b.history) c.args.span c.args.rooms) c.self.view_is ∙ c.requires.rooms in
     let right = let P : Diary → Type 0 = λ b. IsQuoteFor b.house b.history (Group c.args.span c.args.rooms c.args.amount) c.args.quote in subst P (sym c.self.view_is) c.requires.right in
     let changes = c.changes_after-changes.ensures ∙ ap (λ (b : Diary). changes_after b.history c.args.quote.position) (sym c.self.view_is) in
     let none : changes_after c.self.inside.log.lines c.args.quote.position ≡ 0 = omega (arith, changes, c.if-changes-ge1.false) in
@@ -66,7 +67,7 @@ invariant_of-self-else-paid-displacement c =
     let spans = and_parts _ _ (and_parts _ _ may.in_range).0 in
     let ordered : c.args.span.from < c.args.span.to = ltb-true _ _ spans.0 in
     let inside : c.args.span.to ≤ length c.self.inside.house.rooms = leb-true _ _ spans.1 in
-    let first = ap (λ (b : Diary). first_without b.house b.history c.args.span c.args.rooms) c.self.view_is ∙ c.requires.rooms in
+    let first = ap (λ (b : Diary). first_short (left_at b.house b.history) c.args.span c.args.rooms) c.self.view_is ∙ c.requires.rooms in
     let right = let P : Diary → Type 0 = λ b. IsQuoteFor b.house b.history (Group c.args.span c.args.rooms c.args.amount) c.args.quote in subst P (sym c.self.view_is) c.requires.right in
     let changes = c.changes_after-changes.ensures ∙ ap (λ (b : Diary). changes_after b.history c.args.quote.position) (sym c.self.view_is) in
     let none : changes_after c.self.inside.log.lines c.args.quote.position ≡ 0 = omega (arith, changes, c.if-changes-ge1.false) in
@@ -83,7 +84,7 @@ returns-then-paid-displacement c =
     let spans = and_parts _ _ (and_parts _ _ may.in_range).0 in
     let ordered : c.args.span.from < c.args.span.to = ltb-true _ _ spans.0 in
     let inside : c.args.span.to ≤ length c.self.inside.house.rooms = leb-true _ _ spans.1 in
-    let first = ap (λ (b : Diary). first_without b.house b.history c.args.span c.args.rooms) c.self.view_is ∙ c.requires.rooms in
+    let first = ap (λ (b : Diary). first_short (left_at b.house b.history) c.args.span c.args.rooms) c.self.view_is ∙ c.requires.rooms in
     let right = let P : Diary → Type 0 = λ b. IsQuoteFor b.house b.history (Group c.args.span c.args.rooms c.args.amount) c.args.quote in subst P (sym c.self.view_is) c.requires.right in
     let changes = c.changes_after-changes.ensures ∙ ap (λ (b : Diary). changes_after b.history c.args.quote.position) (sym c.self.view_is) in
     let none : changes_after c.self.inside.log.lines c.args.quote.position ≡ 0 = omega (arith, changes, c.if-changes-ge1.false) in
@@ -99,7 +100,7 @@ returns-else-paid-displacement c =
     let spans = and_parts _ _ (and_parts _ _ may.in_range).0 in
     let ordered : c.args.span.from < c.args.span.to = ltb-true _ _ spans.0 in
     let inside : c.args.span.to ≤ length c.self.inside.house.rooms = leb-true _ _ spans.1 in
-    let first = ap (λ (b : Diary). first_without b.house b.history c.args.span c.args.rooms) c.self.view_is ∙ c.requires.rooms in
+    let first = ap (λ (b : Diary). first_short (left_at b.house b.history) c.args.span c.args.rooms) c.self.view_is ∙ c.requires.rooms in
     let right = let P : Diary → Type 0 = λ b. IsQuoteFor b.house b.history (Group c.args.span c.args.rooms c.args.amount) c.args.quote in subst P (sym c.self.view_is) c.requires.right in
     let changes = c.changes_after-changes.ensures ∙ ap (λ (b : Diary). changes_after b.history c.args.quote.position) (sym c.self.view_is) in
     let none : changes_after c.self.inside.log.lines c.args.quote.position ≡ 0 = omega (arith, changes, c.if-changes-ge1.false) in

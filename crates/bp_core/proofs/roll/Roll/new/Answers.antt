@@ -4,9 +4,9 @@ use Rattle.std.proofs.lemmas.List.Elements.{All-push}
 use Rattle.bp_core.specs.declared.roll.Standing.{Standing}
 use Rattle.bp_core.specs.declared.roll.Standing.TheVariants.{New}
 use Rattle.bp_core.specs.declared.roll.Booking.{Booking}
-use Rattle.bp_core.specs.Roll.{callers}
 use Rattle.bp_core.proofs.RollLemmas.{items_of}
 use Rattle.bp_core.proofs.roll.Roll.new.Goals as goal
+use Rattle.bp_types.specs.declared.limits.TheConstants.{CALLERS}
 
 pub loop-preserved : goal.loop-preserved
 loop-preserved c =
@@ -19,7 +19,7 @@ loop-preserved c =
 
 pub invariant_of-result : goal.invariant_of-result
 invariant_of-result c =
-    let last : c.loop.counter ≡ callers = omega arith in
+    let last : c.loop.counter ≡ CALLERS = omega arith in
     let all = ap (λ (l : List Standing). length l) c.loop.invariant.all_new ∙ length-replicate c.loop.counter New in
     let each : length (map items_of c.loop.bookings.items) ≡ length c.loop.bookings.items = length-map _ _ in
     let some = ap (λ (l : List (List Booking)). length l) c.loop.invariant.empty ∙ length-replicate c.loop.counter [] in
@@ -27,5 +27,5 @@ invariant_of-result c =
 
 pub returns : goal.returns
 returns c =
-    let last : c.loop.counter ≡ callers = omega arith in
-    ap (λ (l : List Standing). record { standings = l; bookings = map items_of c.loop.bookings.items; room = c.args.room }) (c.loop.invariant.all_new ∙ ap (λ n. replicate n New) last) ∙ ap (λ (l : List (List Booking)). record { standings = replicate callers New; bookings = l; room = c.args.room }) (c.loop.invariant.empty ∙ ap (λ n. replicate n []) last)
+    let last : c.loop.counter ≡ CALLERS = omega arith in
+    ap (λ (l : List Standing). record { standings = l; bookings = map items_of c.loop.bookings.items; room = c.args.room }) (c.loop.invariant.all_new ∙ ap (λ n. replicate n New) last) ∙ ap (λ (l : List (List Booking)). record { standings = replicate CALLERS New; bookings = l; room = c.args.room }) (c.loop.invariant.empty ∙ ap (λ n. replicate n []) last)

@@ -1,5 +1,6 @@
+use Rattle.bp_flow.specs.Solving.{priced}
 use Rattle.bp_flow.specs.Solvers.{ColdSoFar}
 use Rattle.bp_flow.proofs.solver.Solver.cold.Given as goal
 
 abbrev pub invariant-loop-night : goal.invariant-loop-night
-invariant-loop-night g l = ColdSoFar l.instance l.night l.solver
+invariant-loop-night g l = ColdSoFar l.instance l.night (priced l.solver)

@@ -1,6 +1,6 @@
 use Rattle.std.proofs.Common.{ℕ, ◌+◌, List, length, ap, ◌∙◌, arith}
 use Rattle.std.proofs.lemmas.List.{length-replicate}
-use Rattle.bp_paths.specs.Labels.{far}
+use Rattle.bp_paths.specs.Paths.{far}
 use Rattle.bp_flow.proofs.Cold.{cold_none}
 use Rattle.bp_flow.proofs.solver.Solver.empty.Goals as goal
 

@@ -2,7 +2,8 @@ use Rattle.std.proofs.Common.{◌≡◌, ◌∙◌, ap, sym, subst, arith, refl,
 use Rattle.std.proofs.lemmas.List.{with_items_is}
 use Rattle.bp_types.specs.Rooms.{rooms_moved}
 use Rattle.bp_types.proofs.RoomLemmas.{length-rooms_moved}
-use Rattle.bp_ledger.specs.Inventory.{Inventory, HasLeft, IsSpanOf, taken}
+use Rattle.bp_types.specs.Spans.{IsSpanWithin}
+use Rattle.bp_ledger.specs.Inventory.{Inventory, HasLeft, taken}
 use Rattle.bp_ledger.proofs.InventoryLemmas.{left_fits, taken_is_inventory, moved_is_inventory}
 use Rattle.bp_ledger.proofs.ledger.Ledger.take.Goals as goal
 
@@ -10,7 +11,7 @@ pub add-requires-clause-left : goal.add-requires-clause-left
 add-requires-clause-left c =
     let v : Inventory = record { rooms = c.self.inside.rooms.items; sold = c.self.inside.sold.items } in
     let left : HasLeft v c.args.span c.args.units = let P : Inventory → Type 0 = λ w. HasLeft w c.args.span c.args.units in subst P (sym c.self.view_is) c.requires.left in
-    let span : IsSpanOf v c.args.span = let P : Inventory → Type 0 = λ w. IsSpanOf w c.args.span in subst P (sym c.self.view_is) c.requires.span in
+    let span : IsSpanWithin (length v.rooms) c.args.span = let P : Inventory → Type 0 = λ w. IsSpanWithin (length w.rooms) c.args.span in subst P (sym c.self.view_is) c.requires.span in
     rw (c.deref_mut.ensures.value, c.deref.ensures.value) (left_fits v c.args.span c.args.units c.self.invariant span left)
 
 pub invariant_of-self : goal.invariant_of-self

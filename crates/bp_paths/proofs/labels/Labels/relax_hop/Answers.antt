@@ -3,7 +3,8 @@ use Rattle.std.proofs.lemmas.List.{drop_more, get_or_default}
 use Rattle.bp_residual.specs.declared.hop.Hop.{Hop}
 use Rattle.bp_residual.specs.Index.{no_hop}
 use Rattle.bp_residual.specs.Network.{Priced, Step, Admits, step_of}
-use Rattle.bp_paths.specs.Labels.{AreLabels, far, far_end, cost}
+use Rattle.bp_paths.specs.Paths.{far}
+use Rattle.bp_paths.specs.Labels.{AreLabels, far_end, cost}
 use Rattle.bp_paths.proofs.Hops.{ends_of, taken_is}
 use Rattle.bp_paths.proofs.Relax.{labels_skip, labels_set}
 use Rattle.bp_paths.proofs.labels.Labels.relax_hop.Goals as goal

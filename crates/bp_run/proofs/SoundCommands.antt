@@ -1,16 +1,16 @@
 -- What each kind of file and each command owes to completeness.
 use Rattle.std.proofs.Common.{◌≡◌, ◌≤◌, ◌-◌, ℕ, arith, List, length, Some, Ok, Err, slice_index}
+use Rattle.std.specs.Prelude.{nat_lt}
 use Rattle.std.proofs.lemmas.Bool.{ltb-true}
 use Rattle.bp_types.specs.Program.{Program}
 use Rattle.bp_types.specs.declared.stay.Span.{Span}
-use Rattle.bp_types.specs.Spans.{IsSpanWithin}
+use Rattle.bp_types.specs.Spans.{IsSpanWithin, first_short}
 use Rattle.bp_types.specs.Changes.{HasUnits}
 use Rattle.bp_types.proofs.Firsts.{first_passes}
 use Rattle.bp_text.specs.Lines.{Line}
 use Rattle.bp_text.specs.Reading.{IsText}
 use Rattle.bp_text.specs.Laws.{IsReadOneWay as TextsReadOneWay}
 use Rattle.bp_cert.specs.Texts.{problem_lines, all_certificate_lines, IsProblem, IsSpeakable}
-use Rattle.bp_group.specs.Quotes.{is_short, first_short}
 use Rattle.bp_run.specs.Words.{Word, Task, check, solve, group}
 use Rattle.bp_run.specs.Statuses.{status_number}
 use Rattle.bp_run.specs.Stages.{IsReadOneWay}
@@ -46,9 +46,9 @@ certificate_one_way law name =
     record { one_value = one_text all_certificate_lines IsSpeakable law.certificates; not_both = no_text all_certificate_lines IsSpeakable law.certificates }
 
 -- where each night of a span has the units, none is short
-short_of_none : (p : Program) (span : Span) (units night : ℕ) → IsSpanWithin (length p.rooms) span × HasUnits p span units → first_short p span units ≡ Some night → ⊥
+short_of_none : (p : Program) (span : Span) (units night : ℕ) → IsSpanWithin (length p.rooms) span × HasUnits p span units → first_short (slice_index p.rooms) span units ≡ Some night → ⊥
 short_of_none p span units night (is_span, has) found =
-    let first = first_passes (is_short p units) span.from (span.to - span.from) night found in
+    let first = first_passes (λ n. nat_lt (slice_index p.rooms n) units) span.from (span.to - span.from) night found in
     omega (arith, has night first.above (omega (arith, first.below, is_span.0)), ltb-true (slice_index p.rooms night) units first.passes)
 
 -- a group whose nights are there and have the rooms is quoted

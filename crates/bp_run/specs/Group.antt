@@ -1,13 +1,12 @@
 -- `group`: what a group of rooms on a span displaces.
-use Rattle.std.specs.Prelude.{◌≡◌, ℕ, List, [], ◌∷◌, ◌++◌, length, codes, Some}
+use Rattle.std.specs.Prelude.{◌≡◌, ℕ, List, [], ◌∷◌, ◌++◌, length, slice_index, codes, Some}
 use Rattle.bp_types.specs.Program.{Program}
 use Rattle.bp_types.specs.declared.stay.Span.{Span}
 use Rattle.bp_types.specs.Claim.{IsLeastCertificate}
-use Rattle.bp_types.specs.Spans.{IsSpanWithin}
+use Rattle.bp_types.specs.Spans.{IsSpanWithin, first_short}
 use Rattle.bp_types.specs.Changes.{HasUnits}
 use Rattle.bp_types.specs.Displacement.{IsDisplacement, without}
 use Rattle.bp_cert.specs.Texts.{certificate_text}
-use Rattle.bp_group.specs.Quotes.{first_short}
 use Rattle.bp_run.specs.Words.{Word}
 use Rattle.bp_run.specs.Stages.{one}
 use Rattle.bp_run.specs.TextFiles.{problem_file}
@@ -27,7 +26,7 @@ span_of from to = record { from = from; to = to }
 -- the rooms, or its displacement with certificates of both optima
 abbrev pub IsGroupAnswer : Program → Span → ℕ → GroupAnswer → Type 0
 IsGroupAnswer p span rooms BadSpan = IsSpanWithin (length p.rooms) span → ⊥
-IsGroupAnswer p span rooms (NoRoom night) = IsSpanWithin (length p.rooms) span × (first_short p span rooms ≡ Some night)
+IsGroupAnswer p span rooms (NoRoom night) = IsSpanWithin (length p.rooms) span × (first_short (slice_index p.rooms) span rooms ≡ Some night)
 IsGroupAnswer p span rooms (Quoted displacement before after) =
     IsDisplacement p span rooms displacement × IsLeastCertificate p before × IsLeastCertificate (without p span rooms) after
 

@@ -13,7 +13,7 @@ use bp_cert::text_of_certificate;
 use bp_edges::Shelf;
 use bp_flow::Solver;
 use bp_group::{GroupQuote, QuoteError, quote};
-use bp_types::{Certificate, Instance, Memory, Span, Steps, law};
+use bp_types::{Certificate, Instance, Memory, Span, Steps};
 use std::alloc::{AllocError, Global};
 use std::marker::Brand;
 use std::sync::ledger::{Blank, Ledger};
@@ -78,7 +78,6 @@ fn quoted<L: Ledger>(
     requires span { IsSpanWithin (length instance.now.rooms) span }
     ensures { IfOk result (IsGroupAnswer instance.now span rooms) }
 {
-    law::certificate_is_optimal();
     let mut steps: Steps<L> = Steps::new(blank);
     let solver = Solver::cold(alloc, instance, &mut steps)?;
     match quote(alloc, &solver, 0, span, rooms, &mut steps) {

@@ -6,8 +6,8 @@ use Rattle.std.proofs.lemmas.Bool.Decides.{nat_tests}
 use Rattle.std.proofs.lemmas.List.{get_or-map, length-map, take_more}
 use Rattle.std.proofs.lemmas.List.Sums.{sum_by-set, count_by-le-length}
 use Rattle.std.proofs.lemmas.List.FromFn.{fill_by_all}
-use Rattle.bp_hotelfile.specs.declared.error.HotelError.{HotelError}
-use Rattle.bp_hotelfile.specs.declared.error.HotelError.TheVariants.{NightOutside, TwiceNight}
+use Rattle.bp_hotelfile.specs.declared.error.HotelRefusal.{HotelRefusal}
+use Rattle.bp_hotelfile.specs.declared.error.HotelRefusal.TheVariants.{NightOutside, TwiceNight}
 use Rattle.bp_hotelfile.specs.declared.nights.NightTable.{NightTable}
 use Rattle.bp_hotelfile.specs.Nights.{night_on, own_rooms, wrong_with, wrong_at, wrong_by_night, wrong_by_rooms, refused_table, rooms_by_night, Places}
 use Rattle.bp_hotelfile.specs.Steps.{first_below}
@@ -121,7 +121,7 @@ table_more first nights index tables own new below right h p = (
 )
 
 -- the first table that is refused
-pub table_refused : (first nights index : ℕ) (tables : List (Option NightTable)) (own : List (Option ℕ)) (e : HotelError) → index < length tables →
+pub table_refused : (first nights index : ℕ) (tables : List (Option NightTable)) (own : List (Option ℕ)) (e : HotelRefusal) → index < length tables →
     first_below (wrong_at first nights tables) index ≡ None → Holds first nights (take index tables) own → wrong_by_rooms first index own (get_or tables index None) ≡ Some e →
     refused_table first nights tables ≡ Some e
 table_refused first nights index tables own e below right h wrong =

@@ -32,7 +32,3 @@ day_of t =
 -- the day number of 0001-01-01
 abbrev pub first_day : ℕ
 first_day = 3_652_425
-
--- the day number of 9999-12-31
-abbrev pub last_day : ℕ
-last_day = 7_304_483

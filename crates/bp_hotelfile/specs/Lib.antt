@@ -1,7 +1,9 @@
 pub mod Steps
+pub mod Refusals
 pub mod Numbers
 pub mod Dates
 pub mod Keys
 pub mod Settings
 pub mod Nights
 pub mod Season
+pub mod Laws

@@ -2,10 +2,11 @@
 use Rattle.std.specs.Prelude.{codes, ◌≡◌, ℕ, ◌+◌, ◌-◌, ◌<◌, ◌&&◌, ◌==◌, nat_le, nat_lt, if◌then◌else◌, List, [], ◌∷◌, map, take, length, slice_index_or, slice_set, Option, Some, None, is_none, is_some, unwrap_or, option_and_then, Result, Ok}
 use Rattle.std.specs.List.{range_with_len}
 use Rattle.std.specs.Option.{ok_or, option_map}
+use Rattle.bp_types.specs.declared.limits.TheConstants.{MOST_ROOMS}
 use Rattle.toml.specs.Data.{Data, Members, Items, no_items, item, get, as_str, as_integer, as_array}
 use Rattle.bp_hotelfile.specs.declared.key.Key.TheVariants as key
-use Rattle.bp_hotelfile.specs.declared.error.HotelError.{HotelError}
-use Rattle.bp_hotelfile.specs.declared.error.HotelError.TheVariants.{Kind, NightShape, NightOutside, TwiceNight}
+use Rattle.bp_hotelfile.specs.declared.error.HotelRefusal.{HotelRefusal}
+use Rattle.bp_hotelfile.specs.declared.error.HotelRefusal.TheVariants.{Kind, NightShape, NightOutside, TwiceNight}
 use Rattle.bp_hotelfile.specs.declared.nights.NightTable.{NightTable}
 use Rattle.bp_hotelfile.specs.Steps.{first_below}
 use Rattle.bp_hotelfile.specs.Numbers.{within}
@@ -24,7 +25,7 @@ day_under d = option_and_then day_of (option_and_then as_str (get (codes "date")
 
 -- the number of rooms under `rooms`
 abbrev pub rooms_under : Data → Option ℕ
-rooms_under d = option_and_then (within 0 10_000) (option_and_then as_integer (get (codes "rooms") d))
+rooms_under d = option_and_then (within 0 MOST_ROOMS) (option_and_then as_integer (get (codes "rooms") d))
 
 -- a table with a date and a number of rooms
 abbrev pub night_table : Data → Option NightTable
@@ -36,11 +37,11 @@ night_tables no_items = []
 night_tables (item d ds) = night_table d ∷ night_tables ds
 
 -- the tables under `night`: none where the key is absent
-abbrev pub tables_in : Option Data → Result (List (Option NightTable)) HotelError
+abbrev pub tables_in : Option Data → Result (List (Option NightTable)) HotelRefusal
 tables_in None = Ok []
 tables_in (Some d) = ok_or (option_map night_tables (as_array d)) (Kind key.Night)
 
-abbrev pub tables_at : Members → Result (List (Option NightTable)) HotelError
+abbrev pub tables_at : Members → Result (List (Option NightTable)) HotelRefusal
 tables_at tree = tables_in (value_at key.Night tree)
 
 -- the night of a day, where it is one of the nights
@@ -54,19 +55,19 @@ own_rooms (None ∷ ts) day = own_rooms ts day
 own_rooms (Some t ∷ ts) day = if t.day == day then Some t.rooms else own_rooms ts day
 
 -- what is wrong with the table of an index, after the earlier ones: its form, its day, or an earlier one of its day
-abbrev pub wrong_with : ℕ → ℕ → ℕ → List (Option NightTable) → Option NightTable → Option HotelError
+abbrev pub wrong_with : ℕ → ℕ → ℕ → List (Option NightTable) → Option NightTable → Option HotelRefusal
 wrong_with first nights index earlier None = Some (NightShape index)
 wrong_with first nights index earlier (Some t) =
     if is_none (night_on first nights t.day) then Some (NightOutside index)
     else if is_some (own_rooms earlier t.day) then Some (TwiceNight index)
     else None
 
-abbrev pub wrong_at : ℕ → ℕ → List (Option NightTable) → ℕ → Option HotelError
+abbrev pub wrong_at : ℕ → ℕ → List (Option NightTable) → ℕ → Option HotelRefusal
 wrong_at first nights tables index =
     wrong_with first nights index (take index tables) (slice_index_or tables index None)
 
 -- the first table that is refused
-abbrev pub refused_table : ℕ → ℕ → List (Option NightTable) → Option HotelError
+abbrev pub refused_table : ℕ → ℕ → List (Option NightTable) → Option HotelRefusal
 refused_table first nights tables = first_below (wrong_at first nights tables) (length tables)
 
 -- the rooms of each night: those of its table, and else the hotel's
@@ -75,11 +76,11 @@ rooms_by_night first nights rooms tables =
     map (λ n. unwrap_or (own_rooms tables (first + n)) rooms) (range_with_len 0 nights)
 
 -- what is wrong with a table, by the rooms that the earlier ones gave to each night
-abbrev pub wrong_by_night : ℕ → ℕ → List (Option ℕ) → Option ℕ → Option HotelError
+abbrev pub wrong_by_night : ℕ → ℕ → List (Option ℕ) → Option ℕ → Option HotelRefusal
 wrong_by_night first index own None = Some (NightOutside index)
 wrong_by_night first index own (Some n) = if is_some (slice_index_or own n None) then Some (TwiceNight index) else None
 
-abbrev pub wrong_by_rooms : ℕ → ℕ → List (Option ℕ) → Option NightTable → Option HotelError
+abbrev pub wrong_by_rooms : ℕ → ℕ → List (Option ℕ) → Option NightTable → Option HotelRefusal
 wrong_by_rooms first index own None = Some (NightShape index)
 wrong_by_rooms first index own (Some t) = wrong_by_night first index own (night_on first (length own) t.day)
 

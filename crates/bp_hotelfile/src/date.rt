@@ -1,7 +1,7 @@
 ghost use Rattle.std.specs.Prelude.{◌≡◌, ◌≤◌, ◌<◌, ◌+◌, ◌*◌, ◌==◌, length, pos, ◌+ℤ◌, Some, None, if◌then◌else◌};
 ghost use Rattle.std.specs.Str.{all_ascii_digits};
 ghost use Rattle.bp_hotelfile.specs.Numbers.{number};
-ghost use Rattle.bp_hotelfile.specs.Dates.{day_of, day_of_parts, first_day, last_day};
+ghost use Rattle.bp_hotelfile.specs.Dates.{day_of, day_of_parts, first_day};
 
 use jiff::civil::Date;
 use jiff_core::civil;
@@ -67,7 +67,7 @@ fn two_digits(number: u16) -> (u8, u8)
 /// The text of a day.
 pub(crate) fn text_of(day: u32) -> [u8; 10]
     requires from { first_day ≤ day }
-    requires to { day ≤ last_day }
+    requires to { day ≤ LAST_DAY }
     ensures { day_of result ≡ Some day }
 {
     let date = civil::Date::from_days_since_min(day);

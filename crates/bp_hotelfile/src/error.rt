@@ -1,5 +1,8 @@
+ghost use Rattle.std.specs.Prelude.{◌≡◌};
+ghost use Rattle.bp_hotelfile.specs.declared.error.HotelError.TheVariants.{Refused, Memory as NoMemory};
+
 use crate::Key;
-use std::alloc::AllocError;
+use bp_types::Memory;
 use thiserror::Error;
 
 /// Why a hotel file is refused: the first thing that is wrong with it.
@@ -7,7 +10,7 @@ use thiserror::Error;
 /// Keys are looked at in the order of [`Key`]: what is missing, of the wrong kind, no date, or outside its
 /// range. Only then come the tables of `night`, by their index from 0.
 #[derive(Clone, Copy, Debug, PartialEq, Eq, Error)]
-pub enum HotelError {
+pub enum HotelRefusal {
     /// The bytes are no UTF-8, or no TOML.
     #[error("the file is no TOML")]
     NotToml,
@@ -28,9 +31,33 @@ pub enum HotelError {
     /// An earlier table is of the same night.
     #[error("the night table {index} is of a night that has a table")]
     TwiceNight { index: u32 },
+}
+
+/// Why a hotel file gives no hotel.
+#[derive(Clone, Copy, Debug, PartialEq, Eq, Error)]
+pub enum HotelError {
+    /// The file is refused.
+    #[error("{0}")]
+    Refused(HotelRefusal),
     /// No memory was left. Nothing is said of the file.
     #[error("no memory is left")]
     Memory,
+}
+
+impl From<HotelRefusal> for HotelError {
+    ghost from_gives = { λ refusal e. e ≡ Refused refusal };
+
+    fn from(refusal: HotelRefusal) -> HotelError {
+        HotelError::Refused(refusal)
+    }
+}
+
+impl From<Memory> for HotelError {
+    ghost from_gives = { λ _ e. e ≡ NoMemory };
+
+    fn from(_error: Memory) -> HotelError {
+        HotelError::Memory
+    }
 }
 
 /// Why a text names no night of the hotel.

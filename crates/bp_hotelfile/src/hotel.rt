@@ -1,4 +1,5 @@
-ghost use Rattle.std.specs.Prelude.{◌≡◌, ◌≢◌, ◌+◌, ◌<◌, length, slice_index, IfOk, IfErr, Ok, Err, Some};
+ghost use Rattle.std.specs.Prelude.{◌≡◌, ◌+◌, ◌<◌, length, slice_index, IfOk, IfErr, Ok, Err, Some};
+ghost use Rattle.bp_hotelfile.specs.Refusals.{IfRefused};
 ghost use Rattle.bp_hotelfile.specs.Dates.{day_of};
 ghost use Rattle.bp_hotelfile.specs.Season.{season_of, night_of, IsSeason};
 
@@ -34,8 +35,8 @@ impl Model for Hotel {
 /// The hotel of a hotel file, or the first thing that is wrong with it.
 pub fn read_hotel(alloc: Global, bytes: &[u8]) -> Result<Hotel, HotelError>
     ensures read { IfOk result (λ h. season_of bytes.now ≡ Ok h) }
-    ensures refused { IfErr result
-        (λ e. e ≢ HotelError.Memory → season_of bytes.now ≡ Err e) }
+    ensures season { IfOk result (λ h. IsSeason h) }
+    ensures refused { IfErr result (λ e. IfRefused e (λ r. season_of bytes.now ≡ Err r)) }
 {
     let table = tree_of(alloc, bytes)?;
     let settings = settings_of(&table)?;
@@ -63,6 +64,14 @@ impl Hotel {
         ensures { result ≡ slice_index self.now.rooms night }
     {
         self.rooms[night as usize]
+    }
+
+    /// The rooms of each night, from the first on.
+    pub fn rooms_by_night(&self) -> &[u64]
+        ensures value { result.now ≡ self.now.rooms }
+        ensures season { IsSeason self.now }
+    {
+        &self.rooms
     }
 
     /// The limits of the desk, the unit among them.

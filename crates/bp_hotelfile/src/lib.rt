@@ -7,12 +7,13 @@ mod date;
 mod error;
 mod hotel;
 mod key;
+pub mod law;
 mod nights;
 mod settings;
 #[cfg(test)]
 mod tests;
 mod tree;
 
-pub use error::{DateError, HotelError};
+pub use error::{DateError, HotelError, HotelRefusal};
 pub use hotel::{Hotel, read_hotel};
 pub use key::Key;

@@ -1,11 +1,15 @@
-ghost use Rattle.std.specs.Prelude.{◌≡◌, ◌≢◌, ◌≤◌, ◌<◌, length, map, IfOk, IfErr, MatchResult, OnOk, Ok, Err, Some, None, slice_index_or, unwrap_or};
+ghost use Rattle.std.specs.Prelude.{◌≡◌, ◌≢◌, ◌≤◌, ◌<◌, length, map, IfOk, IfErr, MatchResult, OnOk, Ok, Err, Some, None, slice_index_or, unwrap_or, replicate};
+ghost use Rattle.bp_hotelfile.specs.Refusals.{IfRefused};
+ghost use Rattle.bp_types.specs.declared.limits.TheConstants.{MOST_NIGHTS};
 ghost use Rattle.toml.specs.View.{view, table_view};
 ghost use Rattle.bp_hotelfile.specs.Nights.{day_under, rooms_under, night_table, tables_in, tables_at, night_on, refused_table, rooms_by_night, wrong_by_rooms, Places};
 
 use crate::date::day_of;
 use crate::settings::Settings;
 use crate::tree::{value_at, within};
-use crate::{HotelError, Key};
+use crate::{HotelError, HotelRefusal, Key};
+use bp_types::Memory;
+use bp_types::limits::{MOST_NIGHTS, MOST_ROOMS};
 use std::alloc::Global;
 use toml::{Table, Value};
 
@@ -26,7 +30,7 @@ fn day_under(value: &Value) -> Option<u32>
 fn rooms_under(value: &Value) -> Option<u64>
     ensures { result ≡ rooms_under (view value.now) }
 {
-    within(0, 10_000, value.get("rooms")?.as_integer()?)
+    within(0, MOST_ROOMS, value.get("rooms")?.as_integer()?)
 }
 
 /// A table with a date and a number of rooms.
@@ -38,36 +42,30 @@ fn night_table(value: &Value) -> Option<NightTable>
     Some(NightTable { day, rooms })
 }
 
-fn night_tables(alloc: Global, values: &[Value]) -> Result<Vec<Option<NightTable>>, HotelError>
-    ensures { MatchResult result
-        (λ v. v.items ≡ map (λ d. night_table (view d)) values.now)
-        (λ e. e ≡ HotelError.Memory) }
+fn night_tables(alloc: Global, values: &[Value]) -> Result<Vec<Option<NightTable>>, Memory>
+    ensures { IfOk result (λ v. v.items ≡ map (λ d. night_table (view d)) values.now) }
 {
     let mut tables = Vec::new(alloc);
     for value in values {
-        tables
-            .push(night_table(value))
-            .map_err(|_| HotelError::Memory)?;
+        tables.push(night_table(value))?;
     }
     Ok(tables)
 }
 
 fn tables_in(alloc: Global, value: &Value) -> Result<Vec<Option<NightTable>>, HotelError>
     ensures ok { IfOk result (λ v. tables_in (Some (view value.now)) ≡ Ok v.items) }
-    ensures err { IfErr result
-        (λ e. e ≢ HotelError.Memory → tables_in (Some (view value.now)) ≡ Err e) }
+    ensures err { IfErr result (λ e. IfRefused e (λ r. tables_in (Some (view value.now)) ≡ Err r)) }
 {
     match value.as_array() {
-        Some(values) => night_tables(alloc, values),
-        None => Err(HotelError::Kind { key: Key::Night }),
+        Some(values) => Ok(night_tables(alloc, values)?),
+        None => Err(HotelError::Refused(HotelRefusal::Kind { key: Key::Night })),
     }
 }
 
 /// The tables of nights, in the order of the file.
 pub(crate) fn tables_at(alloc: Global, table: &Table) -> Result<Vec<Option<NightTable>>, HotelError>
     ensures ok { IfOk result (λ v. tables_at (table_view table.now) ≡ Ok v.items) }
-    ensures err { IfErr result
-        (λ e. e ≢ HotelError.Memory → tables_at (table_view table.now) ≡ Err e) }
+    ensures err { IfErr result (λ e. IfRefused e (λ r. tables_at (table_view table.now) ≡ Err r)) }
 {
     match value_at(table, Key::Night) {
         Some(value) => tables_in(alloc, value),
@@ -93,34 +91,36 @@ fn place(
     own: &mut [Option<u64>],
     index: u32,
     table: Option<NightTable>,
-) -> Result<(), HotelError>
+) -> Result<(), HotelRefusal>
     ensures { MatchResult result
         (λ _. Places first own.old table own.new)
         (λ e. wrong_by_rooms first index own.old table ≡ Some e) }
 {
     let Some(table) = table else {
-        return Err(HotelError::NightShape { index });
+        return Err(HotelRefusal::NightShape { index });
     };
     let Some(night) = night_on(first, own.len(), table.day) else {
-        return Err(HotelError::NightOutside { index });
+        return Err(HotelRefusal::NightOutside { index });
     };
     if own[night as usize].is_some() {
-        return Err(HotelError::TwiceNight { index });
+        return Err(HotelRefusal::TwiceNight { index });
     }
     own[night as usize] = Some(table.rooms);
     Ok(())
 }
 
 /// The rooms of each night: its own, and else the same for all.
-fn with_default(alloc: Global, own: &[Option<u64>], rooms: u64) -> Result<Vec<u64>, HotelError>
-    ensures { MatchResult result
-        (λ v. v.items ≡ map (λ o. unwrap_or o rooms) own.now)
-        (λ e. e ≡ HotelError.Memory) }
+fn with_default(alloc: Global, own: &[Option<u64>], rooms: u64) -> Result<Vec<u64>, Memory>
+    ensures { IfOk result (λ v. v.items ≡ map (λ o. unwrap_or o rooms) own.now) }
 {
-    own.iter()
-        .map(|own| own.unwrap_or(rooms))
-        .collect(alloc)
-        .map_err(|_| HotelError::Memory)
+    Ok(own.iter().map(|own| own.unwrap_or(rooms)).collect(alloc)?)
+}
+
+/// No night with rooms of its own.
+fn no_rooms(alloc: Global, nights: usize) -> Result<Vec<Option<u64>>, Memory>
+    ensures { IfOk result (λ v. v.items ≡ replicate nights None) }
+{
+    Ok(vec![in alloc; None; nights]?)
 }
 
 /// The rooms of each night, or the first table that is refused.
@@ -129,17 +129,16 @@ pub(crate) fn rooms_by_night(
     settings: Settings,
     tables: &[Option<NightTable>],
 ) -> Result<Vec<u64>, HotelError>
-    requires { settings.nights ≤ 400 }
+    requires { settings.nights ≤ MOST_NIGHTS }
     ensures ok { IfOk result
         (λ v. (refused_table settings.first settings.nights tables.now ≡ None)
         × (v.items ≡ rooms_by_night settings.first settings.nights settings.rooms tables.now)) }
-    ensures err { IfErr result
-        (λ e. e ≢ HotelError.Memory → refused_table settings.first settings.nights tables.now ≡ Some e) }
+    ensures err { IfErr result (λ e. IfRefused e (λ r. refused_table settings.first settings.nights tables.now ≡ Some r)) }
 {
     let nights = settings.nights as usize;
-    let mut own = vec![in alloc; None; nights].map_err(|_| HotelError::Memory)?;
+    let mut own = no_rooms(alloc, nights)?;
     for index in 0..tables.len() {
         place(settings.first, &mut own, index as u32, tables[index])?;
     }
-    with_default(alloc, &own, settings.rooms)
+    Ok(with_default(alloc, &own, settings.rooms)?)
 }

@@ -4,9 +4,15 @@ ghost use Rattle.bp_hotelfile.specs.Settings.{day_at, number_at, number_or, unit
 
 use crate::date::{LAST_DAY, day_of};
 use crate::tree::{number_in, text_at, value_at};
-use crate::{HotelError, Key};
+use crate::{HotelRefusal, Key};
 use bp_types::Limits;
+use bp_types::limits::{
+    HUNDREDTHS, MOST_ENTRIES, MOST_NIGHTS, MOST_PUBLICATIONS, MOST_ROOMS, MOST_STALE_AFTER,
+};
 use toml::{Table, Value};
+
+/// The number of changes after which a booking waits for a new vector, where the file does not say it.
+const STALE_AFTER: u64 = 20;
 
 /// What stands under the keys, but for the nights that have rooms of their own.
 #[derive(Clone, Copy)]
@@ -18,25 +24,31 @@ pub(crate) struct Settings {
     pub limits: Limits,
 }
 
-fn day_at(table: &Table, key: Key) -> Result<u32, HotelError>
+fn day_at(table: &Table, key: Key) -> Result<u32, HotelRefusal>
     ensures { result ≡ day_at key (table_view table.now) }
 {
     let text = text_at(table, key)?;
-    day_of(text).ok_or(HotelError::Date { key })
+    day_of(text).ok_or(HotelRefusal::Date { key })
 }
 
 /// A number that must be there.
-fn number_at(table: &Table, key: Key, least: u64, most: u64) -> Result<u64, HotelError>
+fn number_at(table: &Table, key: Key, least: u64, most: u64) -> Result<u64, HotelRefusal>
     ensures { result ≡ number_at key least most (table_view table.now) }
 {
     match value_at(table, key) {
         Some(value) => number_in(key, least, most, value),
-        None => Err(HotelError::Missing { key }),
+        None => Err(HotelRefusal::Missing { key }),
     }
 }
 
 /// A number that may be absent, which then is the one given.
-fn number_or(table: &Table, absent: u64, key: Key, least: u64, most: u64) -> Result<u64, HotelError>
+fn number_or(
+    table: &Table,
+    absent: u64,
+    key: Key,
+    least: u64,
+    most: u64,
+) -> Result<u64, HotelRefusal>
     ensures { result ≡ number_or absent key least most (table_view table.now) }
 {
     match value_at(table, key) {
@@ -45,18 +57,18 @@ fn number_or(table: &Table, absent: u64, key: Key, least: u64, most: u64) -> Res
     }
 }
 
-fn unit_in(value: &Value) -> Result<u64, HotelError>
+fn unit_in(value: &Value) -> Result<u64, HotelRefusal>
     ensures { result ≡ unit_in (view value.now) }
 {
-    let unit = number_in(Key::Unit, 1, 100, value)?;
-    if unit == 1 || unit == 100 {
+    let unit = number_in(Key::Unit, 1, HUNDREDTHS, value)?;
+    if unit == 1 || unit == HUNDREDTHS {
         Ok(unit)
     } else {
-        Err(HotelError::Range { key: Key::Unit })
+        Err(HotelRefusal::Range { key: Key::Unit })
     }
 }
 
-fn unit_at(table: &Table) -> Result<u64, HotelError>
+fn unit_at(table: &Table) -> Result<u64, HotelRefusal>
     ensures { result ≡ unit_at (table_view table.now) }
 {
     match value_at(table, Key::Unit) {
@@ -66,24 +78,30 @@ fn unit_at(table: &Table) -> Result<u64, HotelError>
 }
 
 /// The first night, where the day after the last one still has a date.
-fn first_with(first: u32, nights: u64) -> Result<u32, HotelError>
+fn first_with(first: u32, nights: u64) -> Result<u32, HotelRefusal>
     ensures { result ≡ first_with first nights }
 {
     if u128::from(first) + u128::from(nights) <= u128::from(LAST_DAY) {
         Ok(first)
     } else {
-        Err(HotelError::Range {
+        Err(HotelRefusal::Range {
             key: Key::FirstNight,
         })
     }
 }
 
-fn limits_of(table: &Table) -> Result<Limits, HotelError>
+fn limits_of(table: &Table) -> Result<Limits, HotelRefusal>
     ensures { result ≡ limits_of (table_view table.now) }
 {
-    let stale_after = number_or(table, 20, Key::StaleAfter, 1, 100_000)?;
-    let entries = number_or(table, 200_000, Key::Entries, 1, 200_000)?;
-    let publications = number_or(table, 1_000, Key::Publications, 1, 1_000)?;
+    let stale_after = number_or(table, STALE_AFTER, Key::StaleAfter, 1, MOST_STALE_AFTER)?;
+    let entries = number_or(table, MOST_ENTRIES, Key::Entries, 1, MOST_ENTRIES)?;
+    let publications = number_or(
+        table,
+        MOST_PUBLICATIONS,
+        Key::Publications,
+        1,
+        MOST_PUBLICATIONS,
+    )?;
     let unit = unit_at(table)?;
     Ok(Limits {
         stale_after,
@@ -94,14 +112,14 @@ fn limits_of(table: &Table) -> Result<Limits, HotelError>
 }
 
 /// The settings, or the first key that is refused.
-pub(crate) fn settings_of(table: &Table) -> Result<Settings, HotelError>
+pub(crate) fn settings_of(table: &Table) -> Result<Settings, HotelRefusal>
     ensures { result ≡ settings_of (table_view table.now) }
 {
     let _name = text_at(table, Key::Name)?;
     let first = day_at(table, Key::FirstNight)?;
-    let nights = number_at(table, Key::Nights, 1, 400)?;
+    let nights = number_at(table, Key::Nights, 1, MOST_NIGHTS as u64)?;
     let first = first_with(first, nights)?;
-    let rooms = number_at(table, Key::Rooms, 0, 10_000)?;
+    let rooms = number_at(table, Key::Rooms, 0, MOST_ROOMS)?;
     let limits = limits_of(table)?;
     Ok(Settings {
         first,

@@ -1,4 +1,4 @@
-use crate::{DateError, Hotel, HotelError, Key, read_hotel};
+use crate::{DateError, Hotel, HotelError, HotelRefusal, Key, read_hotel};
 use bp_types::Limits;
 use std::alloc::{AllocError, Global};
 use std::process::Abort;
@@ -8,10 +8,18 @@ use std::test::Fail;
 const THREE_NIGHTS: &str = "name = \"A\"\nfirst_night = \"2025-07-01\"\nnights = 3\nrooms = 2\n";
 
 /// What is refused in a file of some lines and further ones behind them.
-fn refusal(alloc: Global, lines: &str, more: &str) -> Result<Option<HotelError>, AllocError> {
+fn refusal(alloc: Global, lines: &str, more: &str) -> Result<Option<HotelRefusal>, AllocError> {
     let mut text = String::from_str(alloc, lines)?;
     text.push_str(more)?;
-    Ok(read_hotel(alloc, text.as_bytes()).err())
+    Ok(refused(read_hotel(alloc, text.as_bytes())))
+}
+
+/// The refusal of a file that is read.
+fn refused(read: Result<Hotel, HotelError>) -> Option<HotelRefusal> {
+    match read {
+        Err(HotelError::Refused(refusal)) => Some(refusal),
+        _ => None,
+    }
 }
 
 #[test]
@@ -24,8 +32,8 @@ fn bytes_that_are_no_toml(rt: HostRuntime) {
         b"name = \"A\"\nname = \"B\"\n".as_slice(),
     ] {
         assert_eq!(rt;
-            read_hotel(rt.alloc(), bytes).err(),
-            Some(HotelError::NotToml)
+            refused(read_hotel(rt.alloc(), bytes)),
+            Some(HotelRefusal::NotToml)
         );
     }
 }
@@ -46,7 +54,7 @@ fn keys_that_must_be_there(rt: HostRuntime) -> Result<(), Fail> {
     ] {
         assert_eq!(rt;
             refusal(rt.alloc(), lines, more)?,
-            Some(HotelError::Missing { key }),
+            Some(HotelRefusal::Missing { key }),
             "{more}"
         );
     }
@@ -62,7 +70,7 @@ fn keys_that_must_be_there(rt: HostRuntime) -> Result<(), Fail> {
     ] {
         assert_eq!(rt;
             refusal(rt.alloc(), lines, more)?,
-            Some(HotelError::Kind { key }),
+            Some(HotelRefusal::Kind { key }),
             "{more}"
         );
     }
@@ -84,7 +92,7 @@ fn keys_that_must_be_there(rt: HostRuntime) -> Result<(), Fail> {
     ] {
         assert_eq!(rt;
             refusal(rt.alloc(), lines, more)?,
-            Some(HotelError::Range { key }),
+            Some(HotelRefusal::Range { key }),
             "{more}"
         );
     }
@@ -104,7 +112,7 @@ fn dates_that_are_none(rt: HostRuntime) -> Result<(), Fail> {
     ] {
         assert_eq!(rt;
             refusal(rt.alloc(), "name = \"A\"\n", date)?,
-            Some(HotelError::Date { key }),
+            Some(HotelRefusal::Date { key }),
             "{date}"
         );
     }
@@ -122,7 +130,7 @@ fn keys_that_may_be_absent(rt: HostRuntime) -> Result<(), Fail> {
     ] {
         assert_eq!(rt;
             refusal(rt.alloc(), THREE_NIGHTS, more)?,
-            Some(HotelError::Kind { key }),
+            Some(HotelRefusal::Kind { key }),
             "{more}"
         );
     }
@@ -138,7 +146,7 @@ fn keys_that_may_be_absent(rt: HostRuntime) -> Result<(), Fail> {
     ] {
         assert_eq!(rt;
             refusal(rt.alloc(), THREE_NIGHTS, more)?,
-            Some(HotelError::Range { key }),
+            Some(HotelRefusal::Range { key }),
             "{more}"
         );
     }
@@ -149,38 +157,38 @@ fn keys_that_may_be_absent(rt: HostRuntime) -> Result<(), Fail> {
 fn tables_of_nights_in_their_order(rt: HostRuntime) -> Result<(), Fail> {
     let first = "[[night]]\ndate = \"2025-07-01\"\nrooms = 10000\n";
     for (more, error) in [
-        ("night = [3]\n", HotelError::NightShape { index: 0 }),
+        ("night = [3]\n", HotelRefusal::NightShape { index: 0 }),
         (
             "[[night]]\nrooms = 1\n",
-            HotelError::NightShape { index: 0 },
+            HotelRefusal::NightShape { index: 0 },
         ),
         (
             "[[night]]\ndate = \"2025-07-01\"\n",
-            HotelError::NightShape { index: 0 },
+            HotelRefusal::NightShape { index: 0 },
         ),
         (
             "[[night]]\ndate = 2025-07-01\nrooms = 1\n",
-            HotelError::NightShape { index: 0 },
+            HotelRefusal::NightShape { index: 0 },
         ),
         (
             "[[night]]\ndate = \"2025-06-31\"\nrooms = 1\n",
-            HotelError::NightShape { index: 0 },
+            HotelRefusal::NightShape { index: 0 },
         ),
         (
             "[[night]]\ndate = \"2025-07-04\"\nrooms = 10001\n",
-            HotelError::NightShape { index: 0 },
+            HotelRefusal::NightShape { index: 0 },
         ),
         (
             "[[night]]\ndate = \"2025-07-01\"\nrooms = -1\n",
-            HotelError::NightShape { index: 0 },
+            HotelRefusal::NightShape { index: 0 },
         ),
         (
             "[[night]]\ndate = \"2025-06-30\"\nrooms = 1\n",
-            HotelError::NightOutside { index: 0 },
+            HotelRefusal::NightOutside { index: 0 },
         ),
         (
             "[[night]]\ndate = \"2025-07-04\"\nrooms = 1\n[[night]]\n",
-            HotelError::NightOutside { index: 0 },
+            HotelRefusal::NightOutside { index: 0 },
         ),
     ] {
         assert_eq!(rt;
@@ -193,11 +201,11 @@ fn tables_of_nights_in_their_order(rt: HostRuntime) -> Result<(), Fail> {
         ("\n", None),
         (
             "[[night]]\ndate = \"2025-07-01\"\nrooms = 1\n",
-            Some(HotelError::TwiceNight { index: 1 }),
+            Some(HotelRefusal::TwiceNight { index: 1 }),
         ),
         (
             "[[night]]\ndate = \"2025-07-03\"\nrooms = 0\n[[night]]\ndate = \"2025-07-01\"\nrooms = 10000\n",
-            Some(HotelError::TwiceNight { index: 2 }),
+            Some(HotelRefusal::TwiceNight { index: 2 }),
         ),
     ] {
         let mut lines = String::from_str(rt.alloc(), THREE_NIGHTS)?;

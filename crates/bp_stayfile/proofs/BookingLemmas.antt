@@ -8,7 +8,10 @@ use Rattle.bp_types.specs.declared.stay.Stay.{Stay}
 use Rattle.bp_types.specs.House.{is_oversold}
 use Rattle.bp_types.specs.Program.{covers, no_stay}
 use Rattle.bp_stayfile.specs.declared.counts.Counted.{Counted}
-use Rattle.bp_stayfile.specs.Counts.{counts_file, sold_at, sold_by_night, bookings_file, unless_overbooked}
+use Rattle.bp_stayfile.specs.Counts.{counts_file}
+use Rattle.bp_stayfile.specs.StayList.{StayList}
+use Rattle.bp_stayfile.specs.Bookings.{sold_by_night, bookings_file, unless_overbooked}
+use Rattle.bp_stayfile.specs.LaidOut.{sold_at}
 
 -- one night more has the rooms
 pub night_more : (old sold : List ℕ) (from night rooms n : ℕ) → from ≤ night → night < length sold →
@@ -39,6 +42,6 @@ pub small_more : (b : Bool) (before after rooms most j : ℕ) → rooms ≤ most
 small_more b before after rooms most j small so_far e = omega (arith, chosen-le b rooms most small, so_far, e)
 
 -- what a bookings file says, by its counts
-pub bookings_are : (rooms : List ℕ) (codes : List (List ℕ)) (stays : List Stay) (bytes : List ℕ) (counts : List Counted) (sold : List ℕ) (night : Option ℕ) → counts_file codes bytes ≡ Ok counts →
-    sold ≡ sold_by_night (length rooms) counts stays → night ≡ find (is_oversold rooms sold) (range_with_len 0 (length rooms)) → bookings_file rooms codes stays bytes ≡ unless_overbooked night sold
-bookings_are rooms codes stays bytes counts sold night read same oversold = rw (read, ← same, ← oversold)
+pub bookings_are : (rooms : List ℕ) (list : StayList) (bytes : List ℕ) (counts : List Counted) (sold : List ℕ) (night : Option ℕ) → counts_file list.codes bytes ≡ Ok counts →
+    sold ≡ sold_by_night (length rooms) counts list.stays → night ≡ find (is_oversold rooms sold) (range_with_len 0 (length rooms)) → bookings_file rooms list bytes ≡ unless_overbooked night sold
+bookings_are rooms list bytes counts sold night read same oversold = rw (read, ← same, ← oversold)

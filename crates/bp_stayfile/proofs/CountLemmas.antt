@@ -12,13 +12,17 @@ use Rattle.std.specs.Option.{ok_or}
 use Rattle.std.specs.Str.{bytes_eq}
 use Rattle.bp_hotelfile.specs.Steps.{◌>>=◌}
 use Rattle.bp_stayfile.specs.declared.counts.Counted.{Counted}
-use Rattle.bp_stayfile.specs.declared.error.TableError.{TableError}
-use Rattle.bp_stayfile.specs.declared.error.TableError.TheVariants.{NoCode, Limit, TwiceCode}
+use Rattle.bp_stayfile.specs.declared.error.TableRefusal.{TableRefusal}
+use Rattle.bp_stayfile.specs.declared.error.TableRefusal.TheVariants.{NoCode, Limit, TwiceCode}
 use Rattle.bp_stayfile.specs.Tables.{Record}
 use Rattle.bp_stayfile.specs.Cells.{code_in, number_in}
 use Rattle.bp_stayfile.specs.Codes.{stay_with}
-use Rattle.bp_stayfile.specs.Counts.{count_of, count_in, counted_in, once_counted, count_rule, AreLaidOut, forecast_by, forecasts_set, sold_on, sold_at, sold_by_night}
-use Rattle.bp_stayfile.specs.Stays.{AreStays}
+use Rattle.bp_stayfile.specs.Counts.{count_of, count_in, counted_in, once_counted, count_rule}
+use Rattle.bp_stayfile.specs.Forecasts.{forecast_by, forecasts_set}
+use Rattle.bp_stayfile.specs.Bookings.{sold_on, sold_by_night}
+use Rattle.bp_stayfile.specs.LaidOut.{AreLaidOut, sold_at}
+use Rattle.bp_types.specs.declared.limits.TheConstants.{MOST_FORECAST}
+use Rattle.bp_stayfile.specs.StayList.{AreStays}
 use Rattle.bp_stayfile.proofs.CodeLemmas.{position-within}
 
 free_before : (b : Bool) (x : ℕ) (rest : Option ℕ) → cond b (Some x) rest ≡ None → (b ≡ false) × (rest ≡ None)
@@ -58,7 +62,7 @@ AreLaidOut-none stays places e =
     }
 
 -- a count more, laid out at its stay
-pub AreLaidOut-more : (stays : ℕ) (counts : List Counted) (places : List (Option ℕ)) (c : Counted) → AreLaidOut stays counts places → c.stay < stays → c.count ≤ 1_000_000 → get_or places c.stay None ≡ None →
+pub AreLaidOut-more : (stays : ℕ) (counts : List Counted) (places : List (Option ℕ)) (c : Counted) → AreLaidOut stays counts places → c.stay < stays → c.count ≤ MOST_FORECAST → get_or places c.stay None ≡ None →
     AreLaidOut stays (counts ++ c ∷ []) (set places c.stay (Some c.count))
 AreLaidOut-more stays counts places c h within small free =
     record {
@@ -74,7 +78,7 @@ AreLaidOut-more stays counts places c h within small free =
           | inr other ↦ let apart : eqb c.stay j ≡ false = grind (arith, nat_tests) in rw (apart, get_or-set_other places c.stay j (Some c.count) None other) (h.each j below)
         ]
 
-    small_at : (j k : ℕ) → get_or (set places c.stay (Some c.count)) j None ≡ Some k → k ≤ 1_000_000
+    small_at : (j k : ℕ) → get_or (set places c.stay (Some c.count)) j None ≡ Some k → k ≤ MOST_FORECAST
     small_at j k e =
         elim (cases_eq j c.stay) [
           | inl here ↦
@@ -85,30 +89,30 @@ AreLaidOut-more stays counts places c h within small free =
           | inr other ↦ h.small j k (sym (get_or-set_other places c.stay j (Some c.count) None other) ∙ e)
         ]
 
-count_ok : (b : Bool) (c d : Counted) (e : TableError) → cond b (Ok c) (Err e) ≡ Ok d → (b ≡ true) × (c ≡ d)
+count_ok : (b : Bool) (c d : Counted) (e : TableRefusal) → cond b (Ok c) (Err e) ≡ Ok d → (b ≡ true) × (c ≡ d)
 count_ok true c d e h = (refl, (cc))
 count_ok false c d e h = absurd (cc)
 
 -- a count that is read is of a stay, and a million at most
-pub counted_in-tells : (codes : List (List ℕ)) (line : ℕ) (row : Record) (c : Counted) → counted_in codes line row ≡ Ok c → (c.stay < length codes) × (c.count ≤ 1_000_000)
+pub counted_in-tells : (codes : List (List ℕ)) (line : ℕ) (row : Record) (c : Counted) → counted_in codes line row ≡ Ok c → (c.stay < length codes) × (c.count ≤ MOST_FORECAST)
 counted_in-tells codes line row c e = parts (code_in line (get_or row 0 [])) (stay_with codes (get_or row 0 [])) (number_in line (get_or row 1 [])) refl e
   where
-    parts : (a : Result (Unit {0}) TableError) (s : Option ℕ) (n : Result ℕ TableError) → s ≡ stay_with codes (get_or row 0 []) →
-        (a >>= (λ _. ok_or s (NoCode line) >>= (λ stay. n >>= (λ count. count_in line (record { stay = stay; count = count }))))) ≡ Ok c → (c.stay < length codes) × (c.count ≤ 1_000_000)
+    parts : (a : Result (Unit {0}) TableRefusal) (s : Option ℕ) (n : Result ℕ TableRefusal) → s ≡ stay_with codes (get_or row 0 []) →
+        (a >>= (λ _. ok_or s (NoCode line) >>= (λ stay. n >>= (λ count. count_in line (record { stay = stay; count = count }))))) ≡ Ok c → (c.stay < length codes) × (c.count ≤ MOST_FORECAST)
     parts (Err x) s n is h = absurd (cc)
     parts (Ok a) None n is h = absurd (cc)
     parts (Ok a) (Some s) (Err x) is h = absurd (cc)
     parts (Ok a) (Some s) (Ok n) is h =
-        let (small, same) = count_ok (nat_le n 1_000_000) (record { stay = s; count = n }) c (Limit line) h in
+        let (small, same) = count_ok (nat_le n MOST_FORECAST) (record { stay = s; count = n }) c (Limit line) h in
         let within = position-within (bytes_eq (get_or row 0 [])) codes s (sym is) in
-        (omega (arith, within, ap (λ (x : Counted). x.stay) same), omega (arith, leb-true n 1_000_000 small, ap (λ (x : Counted). x.count) same))
+        (omega (arith, within, ap (λ (x : Counted). x.stay) same), omega (arith, leb-true n MOST_FORECAST small, ap (λ (x : Counted). x.count) same))
 
 -- what a row says, by the counts before it
 pub count_rule-ok : (codes : List (List ℕ)) (before : List Counted) (line : ℕ) (row : Record) (c : Counted) → length before + 2 ≡ line → counted_in codes line row ≡ Ok c → count_of before c.stay ≡ None →
     count_rule codes before row ≡ Ok c
 count_rule-ok codes before line row c at e free = rw (at, e, free)
 
-pub count_rule-err : (codes : List (List ℕ)) (before : List Counted) (line : ℕ) (row : Record) (e : TableError) → length before + 2 ≡ line → counted_in codes line row ≡ Err e → count_rule codes before row ≡ Err e
+pub count_rule-err : (codes : List (List ℕ)) (before : List Counted) (line : ℕ) (row : Record) (e : TableRefusal) → length before + 2 ≡ line → counted_in codes line row ≡ Err e → count_rule codes before row ≡ Err e
 count_rule-err codes before line row e at h = rw (at, h)
 
 twice : (o : Option ℕ) (line : ℕ) (c : Counted) → is_some o ≡ true → once_counted line o c ≡ Err (TwiceCode line)
@@ -137,15 +141,15 @@ sold_by_night-is nights counts places stays sold h size each =
     fill_by_all (sold_on counts stays) sold nights 0 size (λ k below. each k below ∙ sold-laid_out counts places stays k h)
 
 -- a count of one stay is a million at most
-pub one_sold : (counts : List Counted) (places : List (Option ℕ)) (stays j : ℕ) → AreLaidOut stays counts places → unwrap_or (get_or places j None) 0 ≤ 1_000_000
+pub one_sold : (counts : List Counted) (places : List (Option ℕ)) (stays j : ℕ) → AreLaidOut stays counts places → unwrap_or (get_or places j None) 0 ≤ MOST_FORECAST
 one_sold counts places stays j h = by_place (get_or places j None) refl
   where
-    by_place : (o : Option ℕ) → o ≡ get_or places j None → unwrap_or o 0 ≤ 1_000_000
+    by_place : (o : Option ℕ) → o ≡ get_or places j None → unwrap_or o 0 ≤ MOST_FORECAST
     by_place None e = omega arith
     by_place (Some c) e = h.small j c (sym e)
 
 -- a stay with a forecast of a million at most
-forecast_fits : (o : Option ℕ) (s : Stay) → s.forecast ≤ 1_000_000 → ((c : ℕ) → o ≡ Some c → c ≤ 1_000_000) → (forecast_by o s).forecast ≤ 1_000_000
+forecast_fits : (o : Option ℕ) (s : Stay) → s.forecast ≤ MOST_FORECAST → ((c : ℕ) → o ≡ Some c → c ≤ MOST_FORECAST) → (forecast_by o s).forecast ≤ MOST_FORECAST
 forecast_fits None s was new = was
 forecast_fits (Some c) s was new = new c refl
 
@@ -161,8 +165,8 @@ pub length-forecasts_set : (counts : List Counted) (stays : List Stay) → lengt
 length-forecasts_set counts stays = length-map-range_with_len (λ j. forecast_by (count_of counts j) (get_or stays j no_stay)) 0 (length stays)
 
 -- stays keep to their limits when their forecasts are set
-pub forecasts_set-AreStays : (nights : ℕ) (counts : List Counted) (places : List (Option ℕ)) (stays : List Stay) → AreLaidOut (length stays) counts places → AreStays nights stays → AreStays nights (forecasts_set counts stays)
-forecasts_set-AreStays nights counts places stays h all =
+pub forecasts_set-AreStays : (nights : ℕ) (counts : List Counted) (stays : List Stay) → ((j c : ℕ) → j < length stays → count_of counts j ≡ Some c → c ≤ MOST_FORECAST) → AreStays nights stays → AreStays nights (forecasts_set counts stays)
+forecasts_set-AreStays nights counts stays small all =
     record {
       few = omega (arith, size, all.few);
       spans = λ k d below.
@@ -173,7 +177,7 @@ forecasts_set-AreStays nights counts places stays h all =
           rw (at k d within, forecast_by-rate (count_of counts k) (get_or stays k no_stay)) (all.rates k no_stay within);
       forecasts = λ k d below.
           let within : k < length stays = omega (arith, size) in
-          rw (at k d within) (forecast_fits (count_of counts k) (get_or stays k no_stay) (all.forecasts k no_stay within) (λ c e. h.small k c (h.each k within ∙ e)));
+          rw (at k d within) (forecast_fits (count_of counts k) (get_or stays k no_stay) (all.forecasts k no_stay within) (λ c e. small k c within e));
     }
   where
     size : length (forecasts_set counts stays) ≡ length stays

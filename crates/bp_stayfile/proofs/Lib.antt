@@ -8,3 +8,4 @@ pub mod StayLemmas
 pub mod CountLemmas
 pub mod ForecastLemmas
 pub mod BookingLemmas
+pub mod FitLemmas

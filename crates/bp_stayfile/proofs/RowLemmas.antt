@@ -11,7 +11,7 @@ use Rattle.bp_stayfile.specs.declared.column.Column.TheVariants as column
 use Rattle.std.specs.Str.{bytes_eq}
 use Rattle.bp_stayfile.specs.Columns.{column_text}
 use Rattle.bp_stayfile.specs.Fields.{stripped}
-use Rattle.bp_stayfile.specs.declared.error.TableError.{TableError}
+use Rattle.bp_stayfile.specs.declared.error.TableRefusal.{TableRefusal}
 use Rattle.bp_stayfile.specs.Tables.{Record, Table, is_text, is_taken, place_of, places_of, lacking, field_at, row_at, rows_at, rows_of, table_under, table_from, HaveRows}
 
 -- an element more that does not pass
@@ -95,7 +95,7 @@ table_from-right columns [] header t some is text all made = absurd (omega arith
 table_from-right columns (h ∷ rest) header t some is text all made = rw (← is, text, all) (ap Ok (sym made))
 
 -- and of records whose first one is a wrong header
-pub table_from-wrong : (columns : List Column) (records : List Record) (header : Record) (e : TableError) → 0 < length records → header ≡ get_or records 0 [] → ((rest : List Record) → table_under columns header rest ≡ Err e) →
+pub table_from-wrong : (columns : List Column) (records : List Record) (header : Record) (e : TableRefusal) → 0 < length records → header ≡ get_or records 0 [] → ((rest : List Record) → table_under columns header rest ≡ Err e) →
     table_from columns records ≡ Err e
 table_from-wrong columns [] header e some is wrong = absurd (omega arith)
 table_from-wrong columns (h ∷ rest) header e some is wrong = rw (← is) (wrong rest)

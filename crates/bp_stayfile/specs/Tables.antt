@@ -4,8 +4,8 @@ use Rattle.std.specs.List.{list_all, prefix_len, position_or_len, take_while}
 use Rattle.std.specs.Str.{is_utf8, bytes_eq}
 use Rattle.csv.specs.Reading.{default_config, records, strip_bom}
 use Rattle.bp_stayfile.specs.declared.column.Column.{Column}
-use Rattle.bp_stayfile.specs.declared.error.TableError.{TableError}
-use Rattle.bp_stayfile.specs.declared.error.TableError.TheVariants.{Column as Lacks, NotCsv}
+use Rattle.bp_stayfile.specs.declared.error.TableRefusal.{TableRefusal}
+use Rattle.bp_stayfile.specs.declared.error.TableRefusal.TheVariants.{Column as Lacks, NotCsv}
 use Rattle.bp_stayfile.specs.Columns.{column_text}
 use Rattle.bp_stayfile.specs.Fields.{stripped}
 
@@ -67,22 +67,22 @@ rows_at places width records =
     record { columns = length places; rows = map (row_at places) (take_while (is_taken width) records); stop = stop_line width records }
 
 -- the table, unless a column is missing
-abbrev pub unless_lacking : Option Column → Table → Result Table TableError
+abbrev pub unless_lacking : Option Column → Table → Result Table TableRefusal
 unless_lacking None table = Ok table
 unless_lacking (Some c) table = Err (Lacks c)
 
 -- the table under a header, or what is wrong with the header
-abbrev pub table_under : List Column → Record → List Record → Result Table TableError
+abbrev pub table_under : List Column → Record → List Record → Result Table TableRefusal
 table_under columns header records =
     if is_text header then unless_lacking (lacking header columns) (rows_at (places_of header columns) (length header) records) else Err (NotCsv 1)
 
 -- the table of the records of a text; a text with no record has an empty header
-abbrev pub table_from : List Column → List Record → Result Table TableError
+abbrev pub table_from : List Column → List Record → Result Table TableRefusal
 table_from columns [] = table_under columns [] []
 table_from columns (header ∷ records) = table_under columns header records
 
 -- the table of a text
-abbrev pub table_of : List Column → List ℕ → Result Table TableError
+abbrev pub table_of : List Column → List ℕ → Result Table TableRefusal
 table_of columns bytes = table_from columns (records_of bytes)
 
 -- the rows at some places of the first so many records

@@ -1,14 +1,17 @@
-ghost use Rattle.std.specs.Prelude.{◌≡◌, ◌≢◌, ◌<◌, ◌≤◌, ◌+◌, ◌*◌, ◌^◌, ℕ, List, All, find, if◌then◌else◌, length, slice_index, MatchResult, IfOk, IfErr, Ok, Err};
+ghost use Rattle.std.specs.Prelude.{◌≡◌, ◌<◌, ◌≤◌, ◌+◌, ◌*◌, ◌^◌, ℕ, List, find, if◌then◌else◌, length, slice_index, IfOk, IfErr, Ok, Err};
 ghost use Rattle.std.specs.List.{range_with_len};
 ghost use Rattle.bp_types.specs.Program.{covers};
 ghost use Rattle.bp_types.specs.House.{is_oversold};
 ghost use Rattle.bp_stayfile.specs.declared.counts.Counted.{Counted};
-ghost use Rattle.bp_stayfile.specs.Counts.{AreLaidOut, sold_at, bookings_file};
+ghost use Rattle.bp_stayfile.specs.StayList.{AreStays};
+ghost use Rattle.bp_stayfile.specs.Bookings.{bookings_file, AreSold};
+ghost use Rattle.bp_stayfile.specs.LaidOut.{AreLaidOut, sold_at};
+ghost use Rattle.bp_stayfile.specs.Refusals.{IfRefused};
 
 use crate::counts::counts_of;
-use crate::{Codes, TableError};
+use crate::{Sold, Stays, TableError, TableRefusal};
 use bp_hotelfile::Hotel;
-use bp_types::{Span, Stay};
+use bp_types::{Memory, Span, Stay};
 use std::alloc::Global;
 
 /// Adds so many rooms to each night of a span.
@@ -24,15 +27,10 @@ fn add(sold: &mut [u64], span: Span, rooms: u64)
     }
 }
 
-fn nothing_sold(alloc: Global, nights: u32) -> Result<Vec<u64>, TableError>
-    ensures { MatchResult result
-        (λ v. (length v.items ≡ nights) × ((n : ℕ) → slice_index v.items n ≡ 0))
-        (λ e. e ≡ TableError.Memory) }
+fn nothing_sold(alloc: Global, nights: u32) -> Result<Vec<u64>, Memory>
+    ensures { IfOk result (λ v. (length v.items ≡ nights) × ((n : ℕ) → slice_index v.items n ≡ 0)) }
 {
-    match vec![in alloc; 0; nights as usize] {
-        Ok(sold) => Ok(sold),
-        Err(_) => Err(TableError::Memory),
-    }
+    Ok(vec![in alloc; 0; nights as usize]?)
 }
 
 /// The rooms sold on each night, where each stay is sold as often as its count says.
@@ -41,14 +39,11 @@ fn sold_by_night(
     nights: u32,
     stays: &[Stay],
     counts: &[Option<u64>],
-) -> Result<Vec<u64>, TableError>
-    requires few { length stays.now ≤ 4000 }
-    requires spans { All (λ s. (s.span.from < s.span.to) × (s.span.to ≤ nights)) stays.now }
+) -> Result<Vec<u64>, Memory>
+    requires stays { AreStays nights stays.now }
     requires counts { (named : List Counted) × AreLaidOut (length stays.now) named counts.now }
-    ensures { MatchResult result
-        (λ v. (length v.items ≡ nights)
-        × ((n : ℕ) → n < nights → slice_index v.items n ≡ sold_at counts.now stays.now (length stays.now) n))
-        (λ e. e ≡ TableError.Memory) }
+    ensures { IfOk result (λ v. (length v.items ≡ nights)
+        × ((n : ℕ) → n < nights → slice_index v.items n ≡ sold_at counts.now stays.now (length stays.now) n)) }
 {
     let mut sold = nothing_sold(alloc, nights)?;
     for stay in 0..stays.len() {
@@ -70,28 +65,23 @@ fn overbooked(hotel: &Hotel, sold: &[u64]) -> Option<u32>
     None
 }
 
-/// The rooms that the bookings of a bookings file take of each night, in whole rooms: one number per night.
+/// The rooms that the bookings of a bookings file take of each night, in whole rooms.
 ///
-/// There are as many stays as codes, each of them within the hotel's nights.
+/// The stays are this hotel's: they are within as many nights as it has.
 pub fn read_bookings(
     alloc: Global,
     hotel: &Hotel,
-    codes: &Codes,
-    stays: &[Stay],
+    stays: &Stays,
     bytes: &[u8],
-) -> Result<Vec<u64>, TableError>
-    requires one_each { length codes.now ≡ length stays.now }
-    requires spans { All (λ s. (s.span.from < s.span.to) × (s.span.to ≤ length hotel.now.rooms)) stays.now }
-    ensures read { IfOk result
-        (λ v. bookings_file hotel.now.rooms codes.now stays.now bytes.now ≡ Ok v.items) }
-    ensures refused { IfErr result
-        (λ e. e ≢ TableError.Memory → bookings_file hotel.now.rooms codes.now stays.now bytes.now ≡ Err e) }
+) -> Result<Sold, TableError>
+    requires of_hotel { stays.now.nights ≡ length hotel.now.rooms }
+    ensures read { IfOk result (λ sold. bookings_file hotel.now.rooms stays.now bytes.now ≡ Ok sold) }
+    ensures refused { IfErr result (λ e. IfRefused e (λ r. bookings_file hotel.now.rooms stays.now bytes.now ≡ Err r)) }
 {
-    let counts = counts_of(alloc, codes, bytes)?;
-    let _stays = codes.count();
-    let sold = sold_by_night(alloc, hotel.nights(), stays, &counts)?;
-    match overbooked(hotel, &sold) {
-        Some(night) => Err(TableError::Overbooked { night }),
-        None => Ok(sold),
+    let counts = counts_of(alloc, stays.codes(), bytes)?;
+    let rooms = sold_by_night(alloc, hotel.nights(), stays.as_slice(), &counts)?;
+    match overbooked(hotel, &rooms) {
+        Some(night) => Err(TableError::Refused(TableRefusal::Overbooked { night })),
+        None => Ok(Sold { rooms }),
     }
 }

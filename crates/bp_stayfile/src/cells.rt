@@ -1,36 +1,33 @@
 ghost use Rattle.std.specs.Prelude.{◌≡◌, ◌^◌, ◌<◌, ◌≤◌};
 ghost use Rattle.bp_stayfile.specs.Cells.{code_in, number_in, date_in, span_in, limits_in};
 
-use crate::TableError;
+use crate::TableRefusal;
 use crate::tables::{is_code, number_of};
 use bp_hotelfile::DateError;
 use bp_types::Span;
+use bp_types::limits::{MOST_RATE, MOST_STAYS};
 
-const MOST_RATE: u64 = 1_000_000_000;
-
-const MOST_STAYS: u64 = 4_000;
-
-pub(crate) fn code_in(line: u64, text: &str) -> Result<(), TableError>
+pub(crate) fn code_in(line: u64, text: &str) -> Result<(), TableRefusal>
     ensures { result ≡ code_in line text.now }
 {
     if is_code(text) {
         Ok(())
     } else {
-        Err(TableError::Code { line })
+        Err(TableRefusal::Code { line })
     }
 }
 
-pub(crate) fn number_in(line: u64, text: &str) -> Result<u64, TableError>
+pub(crate) fn number_in(line: u64, text: &str) -> Result<u64, TableRefusal>
     ensures { result ≡ number_in line text.now }
 {
-    number_of(text).ok_or(TableError::Number { line })
+    number_of(text).ok_or(TableRefusal::Number { line })
 }
 
-pub(crate) fn date_in(line: u64, night: Result<u32, DateError>) -> Result<(), TableError>
+pub(crate) fn date_in(line: u64, night: Result<u32, DateError>) -> Result<(), TableRefusal>
     ensures { result ≡ date_in line night }
 {
     match night {
-        Err(DateError::NotADate) => Err(TableError::Date { line }),
+        Err(DateError::NotADate) => Err(TableRefusal::Date { line }),
         _ => Ok(()),
     }
 }
@@ -41,27 +38,27 @@ pub(crate) fn span_in(
     total: u32,
     arrival: Result<u32, DateError>,
     nights: u64,
-) -> Result<Span, TableError>
+) -> Result<Span, TableRefusal>
     ensures { result ≡ span_in line total arrival nights }
 {
     let Ok(from) = arrival else {
-        return Err(TableError::Outside { line });
+        return Err(TableRefusal::Outside { line });
     };
     if u128::from(from) + u128::from(nights) <= u128::from(total) {
         let to = from + nights as u32;
         Ok(Span { from, to })
     } else {
-        Err(TableError::Outside { line })
+        Err(TableRefusal::Outside { line })
     }
 }
 
 /// One night at least, a rate in range, and room for a stay more.
-pub(crate) fn limits_in(line: u64, before: u64, nights: u64, rate: u64) -> Result<(), TableError>
+pub(crate) fn limits_in(line: u64, before: u64, nights: u64, rate: u64) -> Result<(), TableRefusal>
     ensures { result ≡ limits_in line before nights rate }
 {
-    if 1 <= nights && 1 <= rate && rate <= MOST_RATE && before < MOST_STAYS {
+    if 1 <= nights && 1 <= rate && rate <= MOST_RATE && before < MOST_STAYS as u64 {
         Ok(())
     } else {
-        Err(TableError::Limit { line })
+        Err(TableRefusal::Limit { line })
     }
 }

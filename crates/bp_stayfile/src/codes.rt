@@ -1,7 +1,8 @@
-ghost use Rattle.std.specs.Prelude.{◌≡◌, ◌<◌, ◌++◌, ◌∷◌, [], length, slice_index_or, OnOk, IfErr, None};
+ghost use Rattle.std.specs.Prelude.{◌≡◌, ◌<◌, ◌++◌, ◌∷◌, [], length, slice_index_or, OnOk, IfOk, None};
 ghost use Rattle.bp_stayfile.specs.Codes.{stay_with, IsCodes};
 
-use crate::TableError;
+use bp_types::Memory;
+use bp_types::limits::MOST_STAYS;
 use indexmap::IndexSet;
 use std::alloc::Global;
 use std::marker::Model;
@@ -63,18 +64,28 @@ impl Codes {
         }
     }
 
+    /// The same codes.
+    pub(crate) fn copy(&self, alloc: Global) -> Result<Codes, Memory>
+        ensures { IfOk result (λ codes. codes ≡ self.now) }
+    {
+        let mut copied = Codes::new(alloc);
+        for stay in 0..self.count() {
+            copied.add(alloc, self.code(stay))?;
+        }
+        Ok(copied)
+    }
+
     /// Adds a code that is not there.
-    pub(crate) fn add(&mut self, alloc: Global, code: &str) -> Result<(), TableError>
+    pub(crate) fn add(&mut self, alloc: Global, code: &str) -> Result<(), Memory>
         requires new { stay_with self.old code.now ≡ None }
-        requires room { length self.old < 4000 }
-        ensures added { OnOk result (self.new ≡ self.old ++ code.now ∷ []) }
-        ensures err { IfErr result (λ e. e ≡ TableError.Memory) }
+        requires room { length self.old < MOST_STAYS }
+        ensures { OnOk result (self.new ≡ self.old ++ code.now ∷ []) }
     {
         let Ok(code) = String::from_str(alloc, code) else {
-            return Err(TableError::Memory);
+            return Err(Memory);
         };
         if self.codes.insert(code).is_err() {
-            return Err(TableError::Memory);
+            return Err(Memory);
         }
         Ok(())
     }

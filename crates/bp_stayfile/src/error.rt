@@ -1,11 +1,15 @@
+ghost use Rattle.std.specs.Prelude.{◌≡◌};
+ghost use Rattle.bp_stayfile.specs.declared.error.TableError.TheVariants.{Refused, Memory as NoMemory};
+
 use crate::Column;
+use bp_types::Memory;
 use thiserror::Error;
 
 /// Why a table is refused: at its first record that is wrong, the first thing that is wrong with it.
 ///
 /// A line is the number of the record, the header being 1.
 #[derive(Clone, Copy, Debug, PartialEq, Eq, Error)]
-pub enum TableError {
+pub enum TableRefusal {
     /// The header lacks this column, or there is no header.
     #[error("the column {} is missing", column.text())]
     Column { column: Column },
@@ -41,7 +45,31 @@ pub enum TableError {
     /// Of bookings alone: more rooms are sold on this night than there are.
     #[error("night {night} has more rooms sold than it has")]
     Overbooked { night: u32 },
+}
+
+/// Why a table gives nothing.
+#[derive(Clone, Copy, Debug, PartialEq, Eq, Error)]
+pub enum TableError {
+    /// The table is refused.
+    #[error("{0}")]
+    Refused(TableRefusal),
     /// No memory was left. Nothing is said of the table.
     #[error("no memory is left")]
     Memory,
+}
+
+impl From<TableRefusal> for TableError {
+    ghost from_gives = { λ refusal e. e ≡ Refused refusal };
+
+    fn from(refusal: TableRefusal) -> TableError {
+        TableError::Refused(refusal)
+    }
+}
+
+impl From<Memory> for TableError {
+    ghost from_gives = { λ _ e. e ≡ NoMemory };
+
+    fn from(_error: Memory) -> TableError {
+        TableError::Memory
+    }
 }

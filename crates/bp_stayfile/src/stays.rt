@@ -1,85 +1,102 @@
-ghost use Rattle.std.specs.Prelude.{◌≡◌, ◌≢◌, ◌<◌, ◌+◌, ◌^◌, length, slice_index_or, [], IfOk, IfErr, Ok, Err};
-ghost use Rattle.bp_stayfile.specs.Reading.{table_read};
-ghost use Rattle.bp_stayfile.specs.Stays.{stay_in, stay_rule, stays_file, codes_of, stays_of, AreStays};
-ghost use Rattle.bp_stayfile.specs.Stays.{Coded};
-ghost use Rattle.std.specs.Prelude.{List};
+ghost use Rattle.std.specs.Prelude.{◌≡◌, IfOk, List, None, length, map, slice_index_or};
+ghost use Rattle.std.specs.List.{range_with_len};
+ghost use Rattle.bp_types.specs.Program.{no_stay};
+ghost use Rattle.bp_stayfile.specs.declared.counts.Counted.{Counted};
+ghost use Rattle.bp_stayfile.specs.StayList.{IsStayList};
+ghost use Rattle.bp_stayfile.specs.Forecasts.{forecast_by, with_forecasts};
+ghost use Rattle.bp_stayfile.specs.LaidOut.{AreLaidOut};
 
-use crate::cells::{code_in, date_in, limits_in, number_in, span_in};
-use crate::tables::{Rows, rows};
-use crate::{Codes, Column, TableError};
-use bp_hotelfile::Hotel;
-use bp_types::Stay;
+use crate::Codes;
+use bp_types::{Memory, Stay};
 use std::alloc::Global;
+use std::marker::Model;
 
-const COLUMNS: [Column; 4] = [Column::Code, Column::Arrival, Column::Nights, Column::Rate];
-
-/// The stay of a row, after as many codes as there are rows before it.
-fn stay_in(hotel: &Hotel, codes: &Codes, rows: &Rows, row: u64) -> Result<Stay, TableError>
-    requires row { row < length rows.now.rows }
-    requires columns { rows.now.columns ≡ 4 }
-    requires before { length codes.now ≡ row }
-    requires fits { row + 2 < 2 ^ 64 }
-    ensures { result ≡ stay_in hotel.now codes.now (slice_index_or rows.now.rows row []) }
-{
-    let line = row + 2;
-    let code = rows.field(row, 0);
-    code_in(line, code)?;
-    let arrival = hotel.night_of(rows.field(row, 1));
-    date_in(line, arrival)?;
-    let nights = number_in(line, rows.field(row, 2))?;
-    let rate = number_in(line, rows.field(row, 3))?;
-    limits_in(line, row, nights, rate)?;
-    let span = span_in(line, hotel.nights(), arrival, nights)?;
-    if codes.find(code).is_some() {
-        return Err(TableError::TwiceCode { line });
-    }
-    let forecast = 0;
-    Ok(Stay {
-        span,
-        rate,
-        forecast,
-    })
+/// The stays of a hotel with their codes, in the order of the stays file.
+///
+/// Contracts see within how many nights the stays are, the codes, and one stay for each code. Forecasts are in units.
+#[derive(Drop)]
+pub struct Stays {
+    pub(crate) nights: u32,
+    pub(crate) codes: Codes,
+    pub(crate) stays: Vec<Stay>,
 }
 
-fn stays_under(alloc: Global, hotel: &Hotel, rows: &Rows) -> Result<(Codes, Vec<Stay>), TableError>
-    requires { rows.now.columns ≡ 4 }
-    ensures read { IfOk result (λ p. (stays : List Coded) × (table_read (stay_rule hotel.now) rows.now ≡ Ok stays)
-        × (p.0 ≡ codes_of stays) × (p.1.items ≡ stays_of stays)) }
-    ensures one_each { IfOk result (λ p. length p.0 ≡ length p.1.items) }
-    ensures limits { IfOk result (λ p. AreStays (length hotel.now.rooms) p.1.items) }
-    ensures refused { IfErr result
-        (λ e. e ≢ TableError.Memory → table_read (stay_rule hotel.now) rows.now ≡ Err e) }
+impl Model for Stays {
+    ghost use Rattle.bp_stayfile.specs.StayList.{StayList, IsStayList};
+
+    ghost Value = { StayList };
+
+    ghost view = { λ a. record { nights = a.nights; codes = a.codes; stays = a.stays.items } };
+
+    ghost invariant = { λ a. IsStayList (record { nights = a.nights; codes = a.codes; stays = a.stays.items }) };
+}
+
+/// Sets the forecast of each stay that has a count.
+fn set_each(stays: &mut [Stay], counts: &[Option<u64>])
+    requires { length counts.now ≡ length stays.old }
+    ensures { stays.new ≡ map
+        (λ j. forecast_by (slice_index_or counts.now j None) (slice_index_or stays.old j no_stay))
+        (range_with_len 0 (length stays.old)) }
 {
-    let mut codes = Codes::new(alloc);
-    let mut stays = Vec::new(alloc);
-    for row in 0..rows.count() {
-        let stay = stay_in(hotel, &codes, rows, row)?;
-        codes.add(alloc, rows.field(row, 0))?;
-        if stays.push(stay).is_err() {
-            return Err(TableError::Memory);
+    for stay in 0..stays.len() {
+        if let Some(count) = counts[stay] {
+            stays[stay].forecast = count;
         }
     }
-    match rows.stop() {
-        Some(line) => Err(TableError::NotCsv { line }),
-        None => Ok((codes, stays)),
-    }
 }
 
-/// The stays of a stays file with their codes, in the order of the file, or the first thing that is wrong.
-///
-/// Nothing is forecast for them yet.
-pub fn read_stays(
-    alloc: Global,
-    hotel: &Hotel,
-    bytes: &[u8],
-) -> Result<(Codes, Vec<Stay>), TableError>
-    ensures read { IfOk result (λ p. (stays : List Coded) × (stays_file hotel.now bytes.now ≡ Ok stays)
-        × (p.0 ≡ codes_of stays) × (p.1.items ≡ stays_of stays)) }
-    ensures one_each { IfOk result (λ p. length p.0 ≡ length p.1.items) }
-    ensures limits { IfOk result (λ p. AreStays (length hotel.now.rooms) p.1.items) }
-    ensures refused { IfErr result
-        (λ e. e ≢ TableError.Memory → stays_file hotel.now bytes.now ≡ Err e) }
-{
-    let rows = rows(alloc, bytes, &COLUMNS)?;
-    stays_under(alloc, hotel, &rows)
+impl Stays {
+    /// Within how many nights the stays are: the nights of their hotel.
+    pub fn nights(&self) -> u32
+        ensures value { result ≡ self.now.nights }
+        ensures list { IsStayList self.now }
+    {
+        self.nights
+    }
+
+    /// The codes, one for each stay.
+    pub fn codes(&self) -> &Codes
+        ensures value { result.now ≡ self.now.codes }
+        ensures list { IsStayList self.now }
+    {
+        &self.codes
+    }
+
+    /// The stays, one for each code.
+    pub fn as_slice(&self) -> &[Stay]
+        ensures value { result.now ≡ self.now.stays }
+        ensures list { IsStayList self.now }
+    {
+        &self.stays
+    }
+
+    /// The stays without their codes.
+    pub fn into_vec(self) -> Vec<Stay>
+        ensures value { result.items ≡ self.stays }
+        ensures list { IsStayList self }
+    {
+        self.stays
+    }
+
+    /// Sets the forecast of each stay that has a count.
+    pub(crate) fn set_forecasts(&mut self, counts: &[Option<u64>])
+        requires { (named : List Counted) × AreLaidOut (length self.old.codes) named counts.now }
+        ensures { (named : List Counted) → AreLaidOut (length self.old.codes) named counts.now
+            → self.new ≡ with_forecasts self.old named }
+    {
+        set_each(&mut self.stays, counts);
+    }
+
+    /// The same stays with the same codes.
+    pub fn copy(&self, alloc: Global) -> Result<Stays, Memory>
+        ensures { IfOk result (λ s. s ≡ self.now) }
+    {
+        let codes = self.codes.copy(alloc)?;
+        let stays = Vec::from_slice(alloc, &self.stays)?;
+        Ok(Stays {
+            nights: self.nights,
+            codes,
+            stays,
+        })
+    }
 }

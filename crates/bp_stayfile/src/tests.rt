@@ -1,5 +1,5 @@
 use crate::tables::{is_code, number_of, rows};
-use crate::{Codes, Column, TableError, read_bookings, read_forecast, read_stays};
+use crate::{Column, Stays, TableError, TableRefusal, read_bookings, read_forecast, read_stays};
 use bp_hotelfile::{Hotel, HotelError, read_hotel};
 use bp_types::{Span, Stay};
 use std::alloc::{AllocError, Global};
@@ -27,6 +27,14 @@ fn table(alloc: Global, header: &str, records: &str) -> Result<String, AllocErro
     Ok(text)
 }
 
+/// The refusal of a table that is read.
+fn refusal<T: Drop>(read: Result<T, TableError>) -> Option<TableRefusal> {
+    match read {
+        Err(TableError::Refused(refusal)) => Some(refusal),
+        _ => None,
+    }
+}
+
 fn stay(from: u32, to: u32, rate: u64, forecast: u64) -> Stay {
     let span = Span { from, to };
     Stay {
@@ -36,7 +44,7 @@ fn stay(from: u32, to: u32, rate: u64, forecast: u64) -> Stay {
     }
 }
 
-fn are_the_four(rt: &impl Abort, codes: &Codes, stays: &[Stay], forecasts: [u64; 4]) {
+fn are_the_four(rt: &impl Abort, stays: &Stays, forecasts: [u64; 4]) {
     let [first, second, third, fourth] = forecasts;
     let expected = [
         stay(0, 2, 100, first),
@@ -44,7 +52,8 @@ fn are_the_four(rt: &impl Abort, codes: &Codes, stays: &[Stay], forecasts: [u64;
         stay(0, 1, 60, third),
         stay(2, 3, 40, fourth),
     ];
-    assert_eq!(rt; stays, expected.as_slice());
+    assert_eq!(rt; stays.as_slice(), expected.as_slice());
+    let codes = stays.codes();
     for (code, found) in [("P0", Some(0)), ("P3", Some(3)), ("p0", None), ("", None)] {
         assert_eq!(rt; codes.find(code), found);
     }
@@ -62,8 +71,8 @@ fn four_stays_as_a_spreadsheet_writes_them(rt: HostRuntime) -> Result<(), Fail> 
             0150,P1,,2,2025-07-02\r\n\r\n60,P2,x,1,2025-07-01\r\n40,\" P3 \",x,1, 2025-07-03",
         "code,arrival,nights, rate ,\"code \"\nP0,2025-07-01,2,100,X\nP1,2025-07-02,2,150,X\nP2,2025-07-01,1,60,X\nP3,2025-07-03,1,40,X\n",
     ] {
-        let (codes, stays) = read_stays(rt.alloc(), &hotel, text.as_bytes())?;
-        are_the_four(&rt, &codes, &stays, [0, 0, 0, 0]);
+        let stays = read_stays(rt.alloc(), &hotel, text.as_bytes())?;
+        are_the_four(&rt, &stays, [0, 0, 0, 0]);
     }
     Ok(())
 }
@@ -81,53 +90,57 @@ fn stays_are_refused_at_their_first_place(rt: HostRuntime) -> Result<(), Fail> {
         ("code,arrival,nights,ra te\n", Column::Rate),
     ] {
         let read = read_stays(rt.alloc(), &hotel, text.as_bytes());
-        assert_eq!(rt; read.err(), Some(TableError::Column { column }), "{text}");
+        assert_eq!(rt;
+            refusal(read),
+            Some(TableRefusal::Column { column }),
+            "{text}"
+        );
     }
     for (records, error) in [
-        ("P0,2025-07-01,2\n", TableError::NotCsv { line: 2 }),
-        ("P 0,2025-07-01,2,1,\n", TableError::NotCsv { line: 2 }),
-        ("P 0,x,y,z\n", TableError::Code { line: 2 }),
-        ("\"\",x,y,z\n", TableError::Code { line: 2 }),
-        ("abcdefghijklmnopq,x,y,z\n", TableError::Code { line: 2 }),
-        ("P0,2025-07-32,y,z\n", TableError::Date { line: 2 }),
-        ("P0,2025-08-01,-1,1\n", TableError::Number { line: 2 }),
-        ("P0,2025-08-01,0,89.00\n", TableError::Number { line: 2 }),
+        ("P0,2025-07-01,2\n", TableRefusal::NotCsv { line: 2 }),
+        ("P 0,2025-07-01,2,1,\n", TableRefusal::NotCsv { line: 2 }),
+        ("P 0,x,y,z\n", TableRefusal::Code { line: 2 }),
+        ("\"\",x,y,z\n", TableRefusal::Code { line: 2 }),
+        ("abcdefghijklmnopq,x,y,z\n", TableRefusal::Code { line: 2 }),
+        ("P0,2025-07-32,y,z\n", TableRefusal::Date { line: 2 }),
+        ("P0,2025-08-01,-1,1\n", TableRefusal::Number { line: 2 }),
+        ("P0,2025-08-01,0,89.00\n", TableRefusal::Number { line: 2 }),
         (
             "P0,2025-08-01,1,0000000000000000001\n",
-            TableError::Number { line: 2 },
+            TableRefusal::Number { line: 2 },
         ),
-        ("P0,2025-08-01,0,1\n", TableError::Limit { line: 2 }),
-        ("P0,2025-07-01,1,0\n", TableError::Limit { line: 2 }),
+        ("P0,2025-08-01,0,1\n", TableRefusal::Limit { line: 2 }),
+        ("P0,2025-07-01,1,0\n", TableRefusal::Limit { line: 2 }),
         (
             "P0,2025-07-01,1,1000000001\n",
-            TableError::Limit { line: 2 },
+            TableRefusal::Limit { line: 2 },
         ),
-        ("P0,2025-06-30,1,1\n", TableError::Outside { line: 2 }),
-        ("P0,2025-07-02,3,1\n", TableError::Outside { line: 2 }),
+        ("P0,2025-06-30,1,1\n", TableRefusal::Outside { line: 2 }),
+        ("P0,2025-07-02,3,1\n", TableRefusal::Outside { line: 2 }),
         (
             "P0,2025-07-02,999999999999999999,1\n",
-            TableError::Outside { line: 2 },
+            TableRefusal::Outside { line: 2 },
         ),
         (
             "P0,2025-07-01,1,1\nP0,2025-07-01,1,0\n",
-            TableError::Limit { line: 3 },
+            TableRefusal::Limit { line: 3 },
         ),
         (
             "P0,2025-07-01,1,1\nP0,2025-07-04,1,1\n",
-            TableError::Outside { line: 3 },
+            TableRefusal::Outside { line: 3 },
         ),
         (
             "P0,2025-07-01,3,1\nP0,2025-07-01,1,1\nx\n",
-            TableError::TwiceCode { line: 3 },
+            TableRefusal::TwiceCode { line: 3 },
         ),
         (
             "P0,2025-07-01,2,100\r\n\r\nP1,2025-07-02,2,150\r\n\nP2,2025-07-01,1,60\r\nP3,2025-07-03,2,40\r\n",
-            TableError::Outside { line: 5 },
+            TableRefusal::Outside { line: 5 },
         ),
     ] {
         let text = table(rt.alloc(), STAYS_HEADER, records)?;
         let read = read_stays(rt.alloc(), &hotel, text.as_bytes());
-        assert_eq!(rt; read.err(), Some(error), "{records}");
+        assert_eq!(rt; refusal(read), Some(error), "{records}");
     }
     Ok(())
 }
@@ -144,7 +157,7 @@ fn fields_that_are_no_text(rt: HostRuntime) -> Result<(), Fail> {
         ),
     ] {
         let read = read_stays(rt.alloc(), &hotel, bytes);
-        assert_eq!(rt; read.err(), Some(TableError::NotCsv { line }));
+        assert_eq!(rt; refusal(read), Some(TableRefusal::NotCsv { line }));
     }
     Ok(())
 }
@@ -155,10 +168,10 @@ fn stays_at_their_limits(rt: HostRuntime) -> Result<(), Fail> {
     let records =
         "0123456789abcdef,2025-07-03,000000000000000001,1000000000\nA-b_9.,2025-07-01,3,1";
     let text = table(rt.alloc(), STAYS_HEADER, records)?;
-    let (codes, stays) = read_stays(rt.alloc(), &hotel, text.as_bytes())?;
+    let stays = read_stays(rt.alloc(), &hotel, text.as_bytes())?;
     let expected = [stay(2, 3, 1_000_000_000, 0), stay(0, 3, 1, 0)];
     assert_eq!(rt; stays.as_slice(), expected.as_slice());
-    assert_eq!(rt; codes.find("A-b_9."), Some(1));
+    assert_eq!(rt; stays.codes().find("A-b_9."), Some(1));
     Ok(())
 }
 
@@ -176,105 +189,103 @@ fn stays_of_a_night(alloc: Global, stays: u32) -> Result<String, AllocError> {
 fn four_thousand_stays_and_one_more(rt: HostRuntime) -> Result<(), Fail> {
     let hotel = hotel(rt.alloc())?;
     let mut text = stays_of_a_night(rt.alloc(), 4000)?;
-    let (codes, stays) = read_stays(rt.alloc(), &hotel, text.as_bytes())?;
-    assert_eq!(rt; stays.len(), 4000);
-    assert_eq!(rt; codes.find("S3999"), Some(3999));
+    let stays = read_stays(rt.alloc(), &hotel, text.as_bytes())?;
+    assert_eq!(rt; stays.as_slice().len(), 4000);
+    assert_eq!(rt; stays.codes().find("S3999"), Some(3999));
     text.push_str("S0,2025-07-01,3,1\n")?;
     let read = read_stays(rt.alloc(), &hotel, text.as_bytes());
-    assert_eq!(rt; read.err(), Some(TableError::Limit { line: 4002 }));
+    assert_eq!(rt; refusal(read), Some(TableRefusal::Limit { line: 4002 }));
     Ok(())
 }
 
 #[test]
 fn forecasts_are_set_up_to_the_refused_record(rt: HostRuntime) -> Result<(), Fail> {
     let hotel = hotel(rt.alloc())?;
-    let (codes, mut stays) = read_stays(rt.alloc(), &hotel, STAYS.as_bytes())?;
+    let mut stays = read_stays(rt.alloc(), &hotel, STAYS.as_bytes())?;
     let text = "\u{feff}count,remark,code\r\n5,\"a, b\",P3\r\n\r\n1000000,, P1 \r\n";
-    read_forecast(rt.alloc(), &codes, &mut stays, text.as_bytes())?;
-    are_the_four(&rt, &codes, &stays, [0, 1_000_000, 0, 5]);
+    read_forecast(rt.alloc(), &mut stays, text.as_bytes())?;
+    are_the_four(&rt, &stays, [0, 1_000_000, 0, 5]);
     for (text, error, forecasts) in [
         (
             "count\n",
-            TableError::Column {
+            TableRefusal::Column {
                 column: Column::Code,
             },
             [0, 1_000_000, 0, 5],
         ),
         (
             "code\nP0\n",
-            TableError::Column {
+            TableRefusal::Column {
                 column: Column::Count,
             },
             [0, 1_000_000, 0, 5],
         ),
         (
             "code,count\nP0,3\nP 1,3\n",
-            TableError::Code { line: 3 },
+            TableRefusal::Code { line: 3 },
             [3, 1_000_000, 0, 5],
         ),
         (
             "code,count\nP0,4\nP9,x\nP1,3\n",
-            TableError::NoCode { line: 3 },
+            TableRefusal::NoCode { line: 3 },
             [4, 1_000_000, 0, 5],
         ),
         (
             "code,count\nP0,5\nP1,\n",
-            TableError::Number { line: 3 },
+            TableRefusal::Number { line: 3 },
             [5, 1_000_000, 0, 5],
         ),
         (
             "code,count\nP0,6\nP0,1000001\n",
-            TableError::Limit { line: 3 },
+            TableRefusal::Limit { line: 3 },
             [6, 1_000_000, 0, 5],
         ),
         (
             "code,count\nP0,7\nP0,8\n",
-            TableError::TwiceCode { line: 3 },
+            TableRefusal::TwiceCode { line: 3 },
             [7, 1_000_000, 0, 5],
         ),
         (
             "code,count\nP0,8\nP1,9\n\"a,b\"\n",
-            TableError::NotCsv { line: 4 },
+            TableRefusal::NotCsv { line: 4 },
             [8, 9, 0, 5],
         ),
     ] {
-        assert_eq!(rt; stays.len(), codes.count() as usize);
-        let read = read_forecast(rt.alloc(), &codes, &mut stays, text.as_bytes());
-        assert_eq!(rt; read.err(), Some(error), "{text}");
-        are_the_four(&rt, &codes, &stays, forecasts);
+        let read = read_forecast(rt.alloc(), &mut stays, text.as_bytes());
+        assert_eq!(rt; refusal(read), Some(error), "{text}");
+        are_the_four(&rt, &stays, forecasts);
     }
-    assert_eq!(rt; stays.len(), codes.count() as usize);
-    let read = read_forecast(rt.alloc(), &codes, &mut stays, b"\x1f\x8b\x08");
-    assert_eq!(rt; read.err(), Some(TableError::NotCsv { line: 1 }));
-    are_the_four(&rt, &codes, &stays, [8, 9, 0, 5]);
+    let read = read_forecast(rt.alloc(), &mut stays, b"\x1f\x8b\x08");
+    assert_eq!(rt; refusal(read), Some(TableRefusal::NotCsv { line: 1 }));
+    are_the_four(&rt, &stays, [8, 9, 0, 5]);
     Ok(())
 }
 
 #[test]
 fn bookings_take_rooms(rt: HostRuntime) -> Result<(), Fail> {
     let hotel = hotel(rt.alloc())?;
-    let (codes, stays) = read_stays(rt.alloc(), &hotel, STAYS.as_bytes())?;
+    let stays = read_stays(rt.alloc(), &hotel, STAYS.as_bytes())?;
     for (records, rooms) in [("", [0, 0, 0]), ("P0,1\r\nP2,1\r\nP3,2\r\nP1,0", [2, 1, 2])] {
         let text = table(rt.alloc(), COUNTS_HEADER, records)?;
-        let sold = read_bookings(rt.alloc(), &hotel, &codes, &stays, text.as_bytes())?;
+        let sold = read_bookings(rt.alloc(), &hotel, &stays, text.as_bytes())?;
         assert_eq!(rt; sold.as_slice(), rooms.as_slice(), "{records}");
     }
     for (records, error) in [
-        ("P0,2\n", TableError::Overbooked { night: 1 }),
-        ("P3,3\nP1,2\n", TableError::Overbooked { night: 1 }),
-        ("P2,1000000\n", TableError::Overbooked { night: 0 }),
-        ("P2,1000001\n", TableError::Limit { line: 2 }),
-        ("P0,9\nP0,1\n", TableError::TwiceCode { line: 3 }),
-        ("P0,9\nP4,1\n", TableError::NoCode { line: 3 }),
-        ("P0,9\nP1,1.0\n", TableError::Number { line: 3 }),
-        ("P0,9\nP-1,,\n", TableError::NotCsv { line: 3 }),
+        ("P0,2\n", TableRefusal::Overbooked { night: 1 }),
+        ("P3,3\nP1,2\n", TableRefusal::Overbooked { night: 1 }),
+        ("P2,1000000\n", TableRefusal::Overbooked { night: 0 }),
+        ("P2,1000001\n", TableRefusal::Limit { line: 2 }),
+        ("P0,9\nP0,1\n", TableRefusal::TwiceCode { line: 3 }),
+        ("P0,9\nP4,1\n", TableRefusal::NoCode { line: 3 }),
+        ("P0,9\nP1,1.0\n", TableRefusal::Number { line: 3 }),
+        ("P0,9\nP-1,,\n", TableRefusal::NotCsv { line: 3 }),
     ] {
         let text = table(rt.alloc(), COUNTS_HEADER, records)?;
-        let read = read_bookings(rt.alloc(), &hotel, &codes, &stays, text.as_bytes());
-        assert_eq!(rt; read.err(), Some(error), "{records}");
+        let read = read_bookings(rt.alloc(), &hotel, &stays, text.as_bytes());
+        assert_eq!(rt; refusal(read), Some(error), "{records}");
     }
-    let read = read_bookings(rt.alloc(), &hotel, &codes, &stays, b"\x1f\x8b\x08");
-    assert_eq!(rt; read.err(), Some(TableError::NotCsv { line: 1 }));
+    let read = read_bookings(rt.alloc(), &hotel, &stays, b"\x1f\x8b\x08");
+    assert_eq!(rt; refusal(read), Some(TableRefusal::NotCsv { line: 1 }));
     Ok(())
 }
 

@@ -1,11 +1,13 @@
-ghost use Rattle.std.specs.Prelude.{◌≡◌, ◌≢◌, ◌+◌, ◌^◌, ◌<◌, ◌==◌, if◌then◌else◌, true, List, map, drop, length, All, Some, None, MatchResult, IfOk, IfErr, IsTrue, Ok, Err};
+ghost use Rattle.std.specs.Prelude.{◌≡◌, ◌+◌, ◌^◌, ◌<◌, ◌==◌, if◌then◌else◌, true, List, map, drop, length, All, Some, None, IfOk, IfErr, IsTrue, Ok, Err};
 ghost use Rattle.std.specs.List.{prefix_len};
 ghost use Rattle.csv.specs.Records.{fields_of};
+ghost use Rattle.bp_stayfile.specs.Refusals.{IfRefused};
 ghost use Rattle.bp_stayfile.specs.Tables.{Record, is_text, is_taken, place_of, lacking, rows_at, places_of, table_under, table_of};
 
 use super::reading::{field_at, is_text, records_of};
 use super::table::Rows;
-use crate::{Column, TableError};
+use crate::{Column, TableError, TableRefusal};
+use bp_types::Memory;
 use csv::ByteRecord;
 use std::alloc::Global;
 
@@ -36,21 +38,16 @@ fn lacking(header: &ByteRecord, columns: &[Column]) -> Option<Column>
     None
 }
 
-fn places_of(
-    alloc: Global,
-    header: &ByteRecord,
-    columns: &[Column],
-) -> Result<Vec<usize>, TableError>
+fn places_of(alloc: Global, header: &ByteRecord, columns: &[Column]) -> Result<Vec<usize>, Memory>
     requires { IsTrue (is_text (fields_of header.now)) }
-    ensures { MatchResult result
-        (λ v. v.items ≡ places_of (fields_of header.now) columns.now)
-        (λ e. e ≡ TableError.Memory) }
+    ensures { IfOk result (λ v. v.items ≡ places_of (fields_of header.now) columns.now) }
 {
-    columns
-        .iter()
-        .map(|column| place_of(header, *column))
-        .collect(alloc)
-        .map_err(|_| TableError::Memory)
+    Ok(
+        columns
+            .iter()
+            .map(|column| place_of(header, *column))
+            .collect(alloc)?,
+    )
 }
 
 /// Whether a record has as many fields as the header, each of them UTF-8.
@@ -111,15 +108,15 @@ fn places_under(
     ensures all { IfOk result (λ v. lacking (fields_of header.now) columns.now ≡ None) }
     ensures places { IfOk result (λ v. v.items ≡ places_of (fields_of header.now) columns.now) }
     ensures refused { IfErr result
-        (λ e. e ≢ TableError.Memory → (records : List Record) → table_under columns.now (fields_of header.now) records ≡ Err e) }
+        (λ e. IfRefused e (λ r. (records : List Record) → table_under columns.now (fields_of header.now) records ≡ Err r)) }
 {
     if !is_text(header) {
-        return Err(TableError::NotCsv { line: 1 });
+        return Err(TableError::Refused(TableRefusal::NotCsv { line: 1 }));
     }
     if let Some(column) = lacking(header, columns) {
-        return Err(TableError::Column { column });
+        return Err(TableError::Refused(TableRefusal::Column { column }));
     }
-    places_of(alloc, header, columns)
+    Ok(places_of(alloc, header, columns)?)
 }
 
 /// The rows of a text under the named columns, of which there is at least one.
@@ -128,12 +125,12 @@ fn places_under(
 pub fn rows(alloc: Global, bytes: &[u8], columns: &[Column]) -> Result<Rows, TableError>
     requires { 0 < length columns.now }
     ensures read { IfOk result (λ t. table_of columns.now bytes.now ≡ Ok t) }
-    ensures refused { IfErr result
-        (λ e. e ≢ TableError.Memory → table_of columns.now bytes.now ≡ Err e) }
+    ensures refused { IfErr result (λ e. IfRefused e (λ r. table_of columns.now bytes.now ≡ Err r)) }
 {
     let records = records_of(alloc, bytes)?;
     if records.is_empty() {
-        return Err(TableError::Column { column: columns[0] });
+        let column = columns[0];
+        return Err(TableError::Refused(TableRefusal::Column { column }));
     }
     let header = &records[0];
     let places = places_under(alloc, columns, header)?;

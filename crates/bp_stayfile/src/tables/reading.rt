@@ -1,19 +1,17 @@
-ghost use Rattle.std.specs.Prelude.{◌≡◌, ◌<◌, map, MatchResult, MatchOption, IsTrue, slice_index_or, length, [], true, false};
+ghost use Rattle.std.specs.Prelude.{◌≡◌, ◌<◌, map, IfOk, MatchOption, IsTrue, slice_index_or, length, [], true, false};
 ghost use Rattle.std.specs.Str.{is_utf8};
 ghost use Rattle.csv.specs.Records.{fields_of};
 ghost use Rattle.bp_stayfile.specs.Fields.{stripped};
 ghost use Rattle.bp_stayfile.specs.Tables.{records_of, is_text, field_at};
 
 use super::fields::stripped;
-use crate::TableError;
+use bp_types::Memory;
 use csv::{ByteRecord, ReaderBuilder};
 use std::alloc::Global;
 
 /// Every record of a text, the header first.
-pub(super) fn records_of(alloc: Global, bytes: &[u8]) -> Result<Vec<ByteRecord>, TableError>
-    ensures { MatchResult result
-        (λ v. map fields_of v.items ≡ records_of bytes.now)
-        (λ e. e ≡ TableError.Memory) }
+pub(super) fn records_of(alloc: Global, bytes: &[u8]) -> Result<Vec<ByteRecord>, Memory>
+    ensures { IfOk result (λ v. map fields_of v.items ≡ records_of bytes.now) }
 {
     let reader = ReaderBuilder::new()
         .has_headers(false)
@@ -23,10 +21,10 @@ pub(super) fn records_of(alloc: Global, bytes: &[u8]) -> Result<Vec<ByteRecord>,
     for record in reader.into_byte_records() {
         // Over bytes in memory, and with records of any length allowed, the reader fails for want of memory alone.
         let Ok(record) = record else {
-            return Err(TableError::Memory);
+            return Err(Memory);
         };
         if records.push(record).is_err() {
-            return Err(TableError::Memory);
+            return Err(Memory);
         }
     }
     Ok(records)

@@ -1,6 +1,6 @@
 use Rattle.std.proofs.Common.{◌≡◌, ◌≢◌, ◌<◌, ◌∙◌, sym, ap, subst, List, ℕ, Option, Some, length, take, drop, get_or, None, arith, length-take, Ok, map, unwrap_or, IfOk}
 use Rattle.std.proofs.lemmas.List.{with_items_is, take_all}
-use Rattle.std.proofs.lemmas.Result.{err_from_is_err_and, MatchResult-weaker}
+use Rattle.std.proofs.lemmas.Result.{err_from_is_err_and}
 use Rattle.bp_hotelfile.specs.Nights.{refused_table}
 use Rattle.bp_hotelfile.proofs.NightLemmas.{at_most_nights, table_more, table_refused, rooms_by_night-is}
 use Rattle.bp_hotelfile.proofs.nights.rooms_by_night.Goals as goal
@@ -24,7 +24,7 @@ pub returns-in_err-place-clause-err : goal.returns-in_err-place-clause-err
 returns-in_err-place-clause-err c =
     let p = err_from_is_err_and c.from_residual-in_err-place.result c.from_residual-in_err-place.ensures.1 in
     let wrong = rw c.deref_mut.ensures.value at c.in_err-place.ensures in
-    rw (p.1, p.2) (λ _. table_refused c.args.settings.first c.args.settings.nights c.loop-index.index c.args.tables.now c.loop-index.own.items _ c.loop-index-test.true c.loop-index.invariant.right c.loop-index.invariant.holds wrong)
+    rw (p.1, p.2) (table_refused c.args.settings.first c.args.settings.nights c.loop-index.index c.args.tables.now c.loop-index.own.items _ c.loop-index-test.true c.loop-index.invariant.right c.loop-index.invariant.holds wrong)
 
 pub returns-clause-ok : goal.returns-clause-ok
 returns-clause-ok c =
@@ -32,4 +32,4 @@ returns-clause-ok c =
     let right : refused_table c.args.settings.first c.args.settings.nights c.args.tables.now ≡ None = rw all c.loop-index.invariant.right in
     let holds = rw (take_all c.loop-index.index c.args.tables.now (omega arith)) at c.loop-index.invariant.holds in
     let rooms = rooms_by_night-is c.args.settings.first c.args.settings.nights c.args.settings.rooms c.args.tables.now c.loop-index.own.items holds in
-    MatchResult-weaker c.with_default.result c.with_default.ensures (λ v e. (right, e ∙ rw c.deref.ensures.value rooms)) (λ e h. search Rattle.std.proofs.Common.rules)
+    (right, c.in_ok-with_default.ensures ∙ rw c.deref.ensures.value rooms)

@@ -4,7 +4,7 @@ use Rattle.std.proofs.lemmas.Str.{IsUtf8-from_is_utf8, is_utf8-from_IsUtf8}
 use Rattle.toml.specs.Data.{Members}
 use Rattle.toml.specs.Parse.{parse_document}
 use Rattle.bp_hotelfile.specs.Season.{tree_of}
-use Rattle.bp_hotelfile.specs.declared.error.HotelError.TheVariants.{NotToml}
+use Rattle.bp_hotelfile.specs.declared.error.HotelRefusal.TheVariants.{NotToml}
 use Rattle.bp_hotelfile.proofs.tree.tree_of.Goals as goal
 
 no_text : (bytes : List ℕ) → (IsUtf8 bytes → ⊥) → tree_of bytes ≡ Err NotToml
@@ -18,7 +18,7 @@ read_text : (bytes text : List ℕ) (found : Option Members) → text ≡ bytes 
 read_text bytes text found same utf8 parsed = rw (is_utf8-from_IsUtf8 bytes utf8, ← same, parsed)
 
 pub returns-in_default-clause-err : goal.returns-in_default-clause-err
-returns-in_default-clause-err c _ = no_text c.args.bytes.now c.in_default.ensures.cases.0
+returns-in_default-clause-err c = no_text c.args.bytes.now c.in_default.ensures.cases.0
 
 pub returns-in-Ok-table_from_str-clause-ok : goal.returns-in-Ok-table_from_str-clause-ok
 returns-in-Ok-table_from_str-clause-ok c =

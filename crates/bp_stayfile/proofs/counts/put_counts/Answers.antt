@@ -1,7 +1,7 @@
 use Rattle.std.proofs.Common.{◌≡◌, ◌+◌, ◌∙◌, sym, [], ◌∷◌, ◌++◌, length, get_or, is_some, true, None, arith, inl, length-append}
 use Rattle.std.proofs.lemmas.Result.{err_from_is_err_and}
 use Rattle.bp_stayfile.specs.declared.counts.Counted.{Counted}
-use Rattle.bp_stayfile.specs.declared.error.TableError.TheVariants.{TwiceCode}
+use Rattle.bp_stayfile.specs.declared.error.TableRefusal.TheVariants.{TwiceCode}
 use Rattle.bp_stayfile.specs.Tables.{Record}
 use Rattle.bp_stayfile.specs.Reading.{IsRefusedAfter}
 use Rattle.bp_stayfile.specs.Counts.{count_of, count_rule}
@@ -9,8 +9,8 @@ use Rattle.bp_stayfile.proofs.ReadLemmas.{rows_read-more}
 use Rattle.bp_stayfile.proofs.CountLemmas.{AreLaidOut-more, counted_in-tells, count_rule-ok, count_rule-twice}
 use Rattle.bp_stayfile.proofs.counts.put_counts.Goals as goal
 
-pub returns-in_err-put-clause-read : goal.returns-in_err-put-clause-read
-returns-in_err-put-clause-read c =
+pub returns-in_err-put : goal.returns-in_err-put
+returns-in_err-put c =
     let p = err_from_is_err_and c.from_residual-in_err-put.result c.from_residual-in_err-put.ensures.1 in
     let inv = c.loop-row.invariant in
     let counted : Counted = c.in_ok-counted.counted in

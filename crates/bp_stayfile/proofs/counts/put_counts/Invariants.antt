@@ -1,7 +1,8 @@
 use Rattle.std.proofs.Common.{◌≡◌, List, length, Ok}
 use Rattle.bp_stayfile.specs.declared.counts.Counted.{Counted}
 use Rattle.bp_stayfile.specs.Reading.{rows_read}
-use Rattle.bp_stayfile.specs.Counts.{count_rule, AreLaidOut}
+use Rattle.bp_stayfile.specs.Counts.{count_rule}
+use Rattle.bp_stayfile.specs.LaidOut.{AreLaidOut}
 use Rattle.bp_stayfile.proofs.counts.put_counts.Given as goal
 
 -- the rows before this one are read

@@ -18,8 +18,8 @@ invariant_of-self-2 c =
     rw (added, map-append string_bytes keys (c.in-Ok.code ∷ []), c.in-Ok.ensures.ok)
     (IsCodes-more (map string_bytes keys) c.args.code.now c.self.invariant (omega (arith, ap (λ (codes : List (List ℕ)). length codes) c.self.view_is)) none)
 
-pub returns-clause-added : goal.returns-clause-added
-returns-clause-added c =
+pub returns : goal.returns
+returns c =
     let keys = c.self.inside.codes.keys in
     let none : stay_with (map string_bytes keys) c.args.code.now ≡ None = ap (λ (codes : List (List ℕ)). stay_with codes c.args.code.now) c.self.view_is ∙ c.requires.new in
     let absent : list_any (λ k. bytes_eq (string_bytes c.in-Ok.code) (string_bytes k)) keys ≡ false = rw c.in-Ok.ensures.ok (not_there c.args.code.now keys none) in

@@ -1,7 +1,7 @@
 use Rattle.std.proofs.Common.{◌≡◌, List, length, Ok}
 use Rattle.bp_stayfile.specs.Reading.{rows_read}
-use Rattle.bp_stayfile.specs.Stays.{Coded, stay_rule, codes_of, stays_of, AreStays}
-use Rattle.bp_stayfile.proofs.stays.stays_under.Given as goal
+use Rattle.bp_stayfile.specs.Stays.{Coded, stay_rule, codes_of, stays_of}
+use Rattle.bp_stayfile.proofs.stays_file.stays_under.Given as goal
 
 -- the rows before this one are read
 abbrev pub invariant-loop-row : goal.invariant-loop-row
@@ -12,5 +12,4 @@ invariant-loop-row l = record {
   stays : l.stays.items ≡ stays_of before;
   many : length l.stays.items ≡ l.row;
   one_each : length l.codes ≡ l.row;
-  limits : AreStays (length l.hotel.rooms) l.stays.items;
 }

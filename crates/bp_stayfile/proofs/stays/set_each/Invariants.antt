@@ -1,7 +1,7 @@
 use Rattle.std.proofs.Common.{◌≡◌, ℕ, ◌<◌, ◌≤◌, get_or, None}
 use Rattle.bp_types.specs.Program.{no_stay}
-use Rattle.bp_stayfile.specs.Counts.{forecast_by}
-use Rattle.bp_stayfile.proofs.forecast.set_forecasts.Given as goal
+use Rattle.bp_stayfile.specs.Forecasts.{forecast_by}
+use Rattle.bp_stayfile.proofs.stays.set_each.Given as goal
 
 -- the stays before this one are done, and the others as they were
 abbrev pub invariant-loop-stay : goal.invariant-loop-stay

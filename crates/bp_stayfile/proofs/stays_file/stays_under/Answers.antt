@@ -6,8 +6,8 @@ use Rattle.bp_types.specs.declared.stay.Stay.{Stay}
 use Rattle.bp_stayfile.specs.Tables.{Record}
 use Rattle.bp_stayfile.specs.Stays.{Coded, stay_rule}
 use Rattle.bp_stayfile.proofs.ReadLemmas.{rows_read-more, rows_read-refused}
-use Rattle.bp_stayfile.proofs.StayLemmas.{stay_in-tells, stay_rule-ok, stay_rule-err, AreStays-more}
-use Rattle.bp_stayfile.proofs.stays.stays_under.Goals as goal
+use Rattle.bp_stayfile.proofs.StayLemmas.{stay_in-tells, stay_rule-ok, stay_rule-err, coded_tell, list_of-tells}
+use Rattle.bp_stayfile.proofs.stays_file.stays_under.Goals as goal
 
 pub add-requires-clause-room : goal.add-requires-clause-room
 add-requires-clause-room c =
@@ -25,7 +25,7 @@ returns-in_err-stay-clause-refused c =
     let row : Record = get_or c.args.rows.now.rows c.loop-row.row [] in
     let wrong = stay_rule-err c.args.hotel.now inv.before c.loop-row.codes row c.in_err-stay.field-0.0 inv.codes (sym c.in_err-stay.ensures) in
     let refused = rows_read-refused (stay_rule c.args.hotel.now) c.args.rows.now.rows c.loop-row.row inv.before c.in_err-stay.field-0.0 inv.read wrong (omega (arith, c.count-row-end.ensures.value)) in
-    rw (p.1, p.2) (λ _. rw refused)
+    rw (p.1, p.2) (rw refused)
 
 pub loop-row-preserved : goal.loop-row-preserved
 loop-row-preserved c =
@@ -34,10 +34,9 @@ loop-row-preserved c =
     let inv = c.loop-row.invariant in
     let row : Record = get_or c.args.rows.now.rows c.loop-row.row [] in
     let stay : Stay = c.in_ok-stay.stay in
-    let tells = stay_in-tells c.args.hotel.now c.loop-row.codes row stay (sym c.in_ok-stay.ensures) in
     let answer = stay_rule-ok c.args.hotel.now inv.before c.loop-row.codes row stay inv.codes (sym c.in_ok-stay.ensures) in
     let coded : Coded = (get_or row 0 [], stay) in
-    let added = rw c.field.ensures at c.in_ok-add.ensures.added in
+    let added = rw c.field.ensures at c.in_ok-add.ensures in
     record {
       before = inv.before ++ coded ∷ [];
       read = rows_read-more (stay_rule c.args.hotel.now) c.args.rows.now.rows c.loop-row.row inv.before coded inv.read answer;
@@ -45,5 +44,10 @@ loop-row-preserved c =
       stays = rw (items, map-append (λ (x : Coded). x.1) inv.before (coded ∷ []), inv.stays);
       many = rw items (omega (arith, inv.many, length-append c.loop-row.stays.items (stay ∷ [])));
       one_each = rw added (omega (arith, inv.one_each, length-append c.loop-row.codes (get_or row 0 [] ∷ [])));
-      limits = rw items (AreStays-more (length c.args.hotel.now.rooms) c.loop-row.stays.items stay inv.limits tells.0 (omega (arith, tells.1, inv.one_each, inv.many)));
     }
+
+pub invariant_of-result : goal.invariant_of-result
+invariant_of-result c =
+    let inv = c.loop-row.invariant in
+    rw (c.nights.ensures.value, inv.codes, inv.stays)
+    (list_of-tells c.args.hotel.now inv.before (coded_tell c.args.hotel.now c.args.rows.now.rows c.loop-row.row inv.before inv.read))

@@ -1,8 +1,8 @@
 use Rattle.std.proofs.Common.{get_or, None, length, arith}
 use Rattle.std.proofs.lemmas.List.FromFn.{fill_by_all}
 use Rattle.bp_types.specs.Program.{no_stay}
-use Rattle.bp_stayfile.specs.Counts.{forecast_by}
-use Rattle.bp_stayfile.proofs.forecast.set_forecasts.Goals as goal
+use Rattle.bp_stayfile.specs.Forecasts.{forecast_by}
+use Rattle.bp_stayfile.proofs.stays.set_each.Goals as goal
 
 pub returns : goal.returns
 returns c =

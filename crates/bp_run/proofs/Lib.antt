@@ -6,5 +6,7 @@ pub mod StageLemmas
 pub mod EndLemmas
 -- good files are not refused
 pub mod CompleteLemmas
+-- the files of a hotel are read in one way
+pub mod HotelOneWay
 -- what each kind of file and each command owes to completeness
 pub mod SoundCommands

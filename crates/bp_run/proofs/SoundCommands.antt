@@ -20,7 +20,7 @@ use Rattle.bp_run.specs.Commands.{command_of}
 use Rattle.bp_run.specs.declared.commands.group.GroupAnswer.{GroupAnswer}
 use Rattle.bp_run.specs.declared.commands.group.GroupAnswer.TheVariants.{Quoted, BadSpan, NoRoom}
 use Rattle.bp_run.specs.declared.end.FileError.{FileError}
-use Rattle.bp_run.specs.declared.end.FileError.TheVariants.{Text}
+use Rattle.bp_run.specs.declared.end.FileError.TheVariants.{Text, Hotel, Table}
 use Rattle.bp_run.proofs.CompleteLemmas.{IsSound}
 use Rattle.bp_run.proofs.EndLemmas.{verdict_number}
 
@@ -37,6 +37,8 @@ module _ {V : Type 0} (lines : V → List Line) (Within : V → Type 0) (law : T
   no_text : (bytes : List ℕ) (v : V) (e : FileError) → IsText lines Within bytes (Ok v) → IsNoText lines Within bytes e → ⊥
   no_text bytes v (Text e) a (other, refused) =
       let same = law bytes (Ok v) (Err e) (λ x. cc) (λ x. other (cc)) a refused in cc
+  no_text bytes v (Hotel e) a refused = refused
+  no_text bytes v (Table e) a refused = refused
 
 problem_one_way : AreTextsReadOneWay → (name : Word) → IsReadOneWay (problem_file name)
 problem_one_way law name = record { one_value = one_text problem_lines IsProblem law.problems; not_both = no_text problem_lines IsProblem law.problems }

@@ -2,16 +2,17 @@
 -- gave its value, and ends with `follows_stop`, `follows_nothing` or `follows_made`; one that reads a plan and then
 -- another that rests on it cites `follows_both`.
 use Rattle.std.proofs.Common.{◌≡◌, inl, inr, ℕ, ◌+◌, ◌<◌, refl, sym, subst, ◌∙◌, arith, Bool, if◌then◌else◌, false, List, length, Option, Some, IsSomeAnd, Result, Ok, Err}
-use Rattle.std.proofs.lemmas.Bool.{cases_Bool}
 use Rattle.std.specs.Option.{ForSome}
 use Rattle.std.specs.FinMap.{get}
 use Rattle.bp_edges.specs.Held.{Files}
 use Rattle.bp_run.specs.Stages.{Stage, Plan, done, ask, followed_by, one, IsRead, IsReadAs, Gives, ComesAt, HoldsFiles}
 use Rattle.bp_run.specs.Fetches.{Shelved, Fetches, Leaves, Fails, IsRefusedFor}
-use Rattle.bp_run.specs.Stops.{Follows, StopsIn, is_memory, refused_by_reader}
+use Rattle.bp_run.specs.Unread.{IfRefused}
+use Rattle.bp_run.specs.Stops.{Follows, StopsIn, stop_by_reader}
 use Rattle.bp_run.specs.declared.end.Cause.{Cause}
 use Rattle.bp_run.specs.declared.end.Cause.TheVariants.{TooLong, Reader}
-use Rattle.bp_run.specs.declared.end.FileError.{FileError}
+use Rattle.bp_run.specs.declared.unread.Unread.{Unread}
+use Rattle.bp_run.specs.declared.unread.Unread.TheVariants.{Memory as NoMemory, Refused as NotTaken}
 use Rattle.bp_run.specs.declared.stop.Stop.{Stop}
 use Rattle.bp_run.specs.declared.stop.Stop.TheVariants.{Memory, Fault, Refused}
 
@@ -57,31 +58,22 @@ pub holds_in : {A B : Type 0} (files : Files) (plan : Plan A) (after : A → Pla
 holds_in files (done x) after holds = tt
 holds_in files (ask s rest) after holds = (holds.0, λ v was_read. holds_in files (rest v) after (holds.1 v was_read))
 
-abbrev either : Stop → ℕ → FileError → Bool → Type 0
-either stop file error b = stop ≡ (if b then Memory else Refused file (Reader error))
-
-abbrev read_by : Fetches → Stage → List ℕ → ℕ → Type 0
-read_by shelf s bytes most = IsRead shelf.before.held s.name most bytes
-
--- a reader's refusal, where no more was read than the file may have
-pub stops_by_reader : (shelf : Fetches) (s : Stage) (file most : ℕ) (bytes now : List ℕ) (error : FileError) (stop : Stop)
-    → Leaves shelf → most ≡ s.most → IsRead shelf.before.held s.name most bytes → now ≡ bytes → (is_memory error ≡ false → s.Refuses now error)
-    → stop ≡ refused_by_reader file error → Follows shelf (one s) file (file + 1) (Err stop)
-stops_by_reader shelf s file most bytes now error stop leaves limit is_read same refuses is =
+-- a reader that gives no value, where no more was read than the file may have
+pub stops_by_reader : (shelf : Fetches) (s : Stage) (file most : ℕ) (bytes now : List ℕ) (unread : Unread) (stop : Stop)
+    → Leaves shelf → most ≡ s.most → IsRead shelf.before.held s.name most bytes → now ≡ bytes → IfRefused unread (s.Refuses now)
+    → stop ≡ stop_by_reader file unread → Follows shelf (one s) file (file + 1) (Err stop)
+stops_by_reader shelf s file most bytes now NoMemory stop leaves limit is_read same refuses is =
     let P : Stop → Type 0 = λ x. Follows shelf (one s) file (file + 1) (Err x) in
-    elim (cases_Bool (is_memory error)) [
-      | inl memory ↦ (
-          let none : stop ≡ Memory = subst (either stop file error) memory is in
-          subst P (sym none) (record { answers = tt; unfailing = λ steady files e holds fault. fault; leaves = leaves }))
-      | inr other ↦ (
-          let refused : stop ≡ Refused file (Reader error) = subst (either stop file error) other is in
-          let Q : List ℕ → Type 0 = λ b. s.Refuses b error in
-          subst P (sym refused) (record {
-            answers = inl (refl, (bytes, subst (read_by shelf s bytes) limit is_read, subst Q same (refuses other)));
-            unfailing = λ steady files e holds fault. fault;
-            leaves = leaves;
-          }))
-    ]
+    subst P (sym is) (record { answers = tt; unfailing = λ steady files e holds fault. fault; leaves = leaves })
+stops_by_reader shelf s file most bytes now (NotTaken error) stop leaves limit is_read same refuses is =
+    let P : Stop → Type 0 = λ x. Follows shelf (one s) file (file + 1) (Err x) in
+    let Q : List ℕ → Type 0 = λ b. s.Refuses b error in
+    let R : ℕ → Type 0 = λ n. IsRead shelf.before.held s.name n bytes in
+    subst P (sym is) (record {
+      answers = inl (refl, (bytes, subst R limit is_read, subst Q same refuses));
+      unfailing = λ steady files e holds fault. fault;
+      leaves = leaves;
+    })
 
 -- the moments of a call
 abbrev moments : Shelved → Shelved → Fetches

@@ -1,15 +1,10 @@
 -- What each end of a call says: its status and its text.
 use Rattle.std.specs.Prelude.{ℕ, List, [], ◌∷◌, ◌++◌, codes}
-use Rattle.std.specs.Fmt.{decimal}
-use Rattle.bp_text.specs.declared.text_error.TextError.{TextError}
-use Rattle.bp_text.specs.declared.text_error.TextError.TheVariants.{BadLine, Limit, TooShort, Trailing, Memory}
 use Rattle.bp_run.specs.Texts.{line}
+use Rattle.bp_run.specs.Refusals.{refusal_line}
 use Rattle.bp_run.specs.Commands.{answer_said, answer_status}
 use Rattle.bp_run.specs.declared.status.Status.{Status}
 use Rattle.bp_run.specs.declared.status.Status.TheVariants as status
-use Rattle.bp_run.specs.declared.end.Cause.{Cause}
-use Rattle.bp_run.specs.declared.end.Cause.TheVariants.{TooLong, Reader}
-use Rattle.bp_run.specs.declared.end.FileError.TheVariants.{Text}
 use Rattle.bp_run.specs.declared.end.End.{End}
 use Rattle.bp_run.specs.declared.end.End.TheVariants.{NotPlain, Fault, Refused, Answered}
 
@@ -28,23 +23,6 @@ usage =
     ++ line (codes "bidprice scenarios PROBLEM CHANGES") []
     ++ line (codes "bidprice sheet PROBLEM") []
     ++ line (codes "bidprice portfolio LIST [--workers W]") []
-
--- the file with this number is refused with a word and numbers
-abbrev pub refused : ℕ → List ℕ → List ℕ → List ℕ
-refused file word numbers = codes "refused " ++ (decimal file ++ line word numbers)
-
--- why a text is refused. No end has want of memory as its cause
-abbrev pub text_refusal : ℕ → TextError → List ℕ
-text_refusal file (BadLine number) = refused file (codes " badline") (number ∷ [])
-text_refusal file (Limit number) = refused file (codes " limit") (number ∷ [])
-text_refusal file TooShort = refused file (codes " tooshort") []
-text_refusal file (Trailing number) = refused file (codes " trailing") (number ∷ [])
-text_refusal file Memory = refused file (codes " memory") []
-
--- why a file is refused
-abbrev pub refusal_line : ℕ → Cause → List ℕ
-refusal_line file TooLong = refused file (codes " toolong") []
-refusal_line file (Reader (Text e)) = text_refusal file e
 
 -- what an end says
 abbrev pub said : End → List ℕ

@@ -1,14 +1,12 @@
 -- Why the files of a task give no value, and what a call says that reads them.
-use Rattle.std.specs.Prelude.{◌≡◌, ℕ, Bool, true, false, if◌then◌else◌, Result, Ok, Err}
+use Rattle.std.specs.Prelude.{◌≡◌, ℕ, Result, Ok, Err}
 use Rattle.std.specs.Option.{ForSome}
-use Rattle.bp_text.specs.declared.text_error.TextError.{TextError}
-use Rattle.bp_text.specs.declared.text_error.TextError.TheVariants.{Memory as NoTextMemory}
 use Rattle.bp_run.specs.Words.{Word}
 use Rattle.bp_run.specs.Stages.{Plan, Gives, ComesAt, HoldsFiles}
 use Rattle.bp_run.specs.Fetches.{Fetches, Leaves, Fails, IsTooLong, IsRefusedFor}
 use Rattle.bp_run.specs.declared.end.Cause.TheVariants.{TooLong, Reader}
-use Rattle.bp_run.specs.declared.end.FileError.{FileError}
-use Rattle.bp_run.specs.declared.end.FileError.TheVariants.{Text}
+use Rattle.bp_run.specs.declared.unread.Unread.{Unread}
+use Rattle.bp_run.specs.declared.unread.Unread.TheVariants.{Memory as NoMemory, Refused as NotTaken}
 use Rattle.bp_run.specs.declared.stop.Stop.{Stop}
 use Rattle.bp_run.specs.declared.stop.Stop.TheVariants.{Memory, Fault, Refused}
 
@@ -52,15 +50,7 @@ pub record Follows {A : Type 0} (shelf : Fetches) (plan : Plan A) (first next : 
   pub unfailing : FailsNever shelf plan result
   pub leaves : Leaves shelf
 
--- the reader of a text had no memory
-abbrev pub is_text_memory : TextError → Bool
-is_text_memory NoTextMemory = true
-is_text_memory _ = false
-
--- the reader of a file had no memory
-abbrev pub is_memory : FileError → Bool
-is_memory (Text e) = is_text_memory e
-
 -- the file with this number is refused by its reader, or the reader had no memory
-abbrev pub refused_by_reader : ℕ → FileError → Stop
-refused_by_reader file e = if is_memory e then Memory else Refused file (Reader e)
+abbrev pub stop_by_reader : ℕ → Unread → Stop
+stop_by_reader file NoMemory = Memory
+stop_by_reader file (NotTaken error) = Refused file (Reader error)

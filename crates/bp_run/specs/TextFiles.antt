@@ -9,11 +9,13 @@ use Rattle.bp_cert.specs.Texts.{problem_lines, all_certificate_lines, IsProblem,
 use Rattle.bp_run.specs.Words.{Word}
 use Rattle.bp_run.specs.Stages.{Stage, most_bytes}
 use Rattle.bp_run.specs.declared.end.FileError.{FileError}
-use Rattle.bp_run.specs.declared.end.FileError.TheVariants.{Text}
+use Rattle.bp_run.specs.declared.end.FileError.TheVariants.{Text, Hotel, Table}
 
 -- the bytes are no text of the kind, and this is the first thing that is wrong with them
 abbrev pub IsNoText : {V : Type 0} → (V → List Line) → (V → Type 0) → List ℕ → FileError → Type 0
 IsNoText lines Within bytes (Text e) = (e ≢ Memory) × IsText lines Within bytes (Err e)
+IsNoText lines Within bytes (Hotel e) = ⊥
+IsNoText lines Within bytes (Table e) = ⊥
 
 -- a problem
 abbrev pub problem_file : Word → Stage

@@ -1,25 +1,20 @@
 //! How a call of the program ends.
-ghost use Rattle.std.specs.Prelude.{◌≡◌};
-ghost use Rattle.bp_run.specs.declared.end.FileError.TheVariants.{Text};
-
 use crate::GroupAnswer;
 use bp_cert::Verdict;
+use bp_hotelfile::HotelRefusal;
+use bp_stayfile::TableRefusal;
 use bp_text::TextError;
 use bp_types::Certificate;
 
 /// Why a reader refuses a file, in the reader's own words.
 #[derive(Clone, Copy, Debug, PartialEq, Eq)]
 pub enum FileError {
-    /// A text of lines.
+    /// A text of lines. It is never want of memory.
     Text(TextError),
-}
-
-impl From<TextError> for FileError {
-    ghost from_gives = { λ e f. f ≡ Text e };
-
-    fn from(error: TextError) -> FileError {
-        FileError::Text(error)
-    }
+    /// A hotel file.
+    Hotel(HotelRefusal),
+    /// A table.
+    Table(TableRefusal),
 }
 
 /// Why a file is refused.

@@ -1,19 +1,25 @@
 //! The files of a task: first the fetch, and then the reader.
-ghost use Rattle.std.specs.Prelude.{false, ◌≡◌, ◌+◌, ℕ, List, IsSome, IfOk, IfErr};
+ghost use Rattle.std.specs.Prelude.{◌≡◌, ◌+◌, ℕ, List, IsSome, IfOk, IfErr};
 ghost use Rattle.std.specs.Option.{ForSome};
 ghost use Rattle.std.specs.FinMap.{get};
 ghost use Rattle.bp_run.specs.Stages.{Stage, one, IsRead};
 ghost use Rattle.bp_run.specs.Fetches.{over, Leaves};
-ghost use Rattle.bp_run.specs.Stops.{Follows, GivesNone, IsFault, is_memory};
+ghost use Rattle.bp_run.specs.Stops.{Follows, GivesNone, IsFault};
+ghost use Rattle.bp_run.specs.Unread.{IfRefused};
 ghost use Rattle.bp_run.specs.declared.end.FileError.{FileError};
 
+use crate::Cause;
 use crate::stop::Stop;
-use crate::{Cause, FileError};
+use crate::unread::Unread;
 use bp_edges::{Shelf, ShelfError};
 use std::alloc::Global;
 
+pub mod bookings;
 pub mod certificate;
+pub mod forecast;
+pub mod hotel;
 pub mod problem;
+pub mod stays;
 
 /// How many bytes a file may have: 16 MiB.
 pub const MOST_BYTES: u64 = 1 << 24;
@@ -40,11 +46,11 @@ pub trait Kind {
     fn most_bytes(&self) -> u64
         ensures { result ≡ most self.now };
 
-    fn read(&self, alloc: Global, bytes: &[u8]) -> Result<Self::Value, FileError>
+    fn read(&self, alloc: Global, bytes: &[u8]) -> Result<Self::Value, Unread>
         requires { needs self.now }
         ensures accepted { IfOk result (λ v. accepts self.now bytes.now v) }
         ensures kept { IfOk result (λ v. keeps self.now v) }
-        ensures refused { IfErr result (λ e. is_memory e ≡ false → refuses self.now bytes.now e) };
+        ensures refused { IfErr result (λ u. IfRefused u (refuses self.now bytes.now)) };
 }
 
 // Fetches a file of at most so many bytes.
@@ -87,6 +93,6 @@ pub fn load<K: Kind, S: Shelf>(
     let bytes = fetch_file(alloc, shelf, file, name, kind.most_bytes())?;
     match kind.read(alloc, &bytes) {
         Ok(value) => Ok(value),
-        Err(error) => Err(Stop::by_reader(file, error)),
+        Err(unread) => Err(Stop::by_reader(file, unread)),
     }
 }

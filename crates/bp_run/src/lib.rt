@@ -4,13 +4,16 @@
 mod commands;
 mod end;
 mod files;
+mod house;
 mod lines;
 mod outcome;
 mod print;
+mod refusals;
 mod status;
 mod stop;
 mod task;
 mod top;
+mod unread;
 
 pub use commands::group::GroupAnswer;
 pub use end::{Answer, Cause, End, FileError};

@@ -1,9 +1,9 @@
 //! What each end of a call says.
 ghost use Rattle.std.specs.Prelude.{◌≡◌, IfOk, string_bytes};
-ghost use Rattle.bp_run.specs.Lines.{said, end_status, refusal_line, text_refusal, usage};
+ghost use Rattle.bp_run.specs.Lines.{said, end_status, usage};
 
-use crate::{Cause, End, FileError, Status, commands};
-use bp_text::TextError;
+use crate::refusals::refused_line;
+use crate::{End, Status, commands};
 use std::alloc::{AllocError, Global};
 
 const USAGE: &str = "usage:
@@ -24,27 +24,6 @@ fn usage_text(alloc: Global) -> Result<String, AllocError>
     ensures { IfOk result (λ text. string_bytes text ≡ usage) }
 {
     String::from_str(alloc, USAGE)
-}
-
-fn text_line(alloc: Global, file: u64, error: TextError) -> Result<String, AllocError>
-    ensures { IfOk result (λ text. string_bytes text ≡ text_refusal file error) }
-{
-    match error {
-        TextError::BadLine { line } => format!(in alloc; "refused {file} badline {line}\n"),
-        TextError::Limit { line } => format!(in alloc; "refused {file} limit {line}\n"),
-        TextError::TooShort => format!(in alloc; "refused {file} tooshort\n"),
-        TextError::Trailing { line } => format!(in alloc; "refused {file} trailing {line}\n"),
-        TextError::Memory => format!(in alloc; "refused {file} memory\n"),
-    }
-}
-
-fn refused_line(alloc: Global, file: u64, cause: Cause) -> Result<String, AllocError>
-    ensures { IfOk result (λ text. string_bytes text ≡ refusal_line file cause) }
-{
-    match cause {
-        Cause::TooLong => format!(in alloc; "refused {file} toolong\n"),
-        Cause::Reader(FileError::Text(error)) => text_line(alloc, file, error),
-    }
 }
 
 fn fault_line(alloc: Global, file: u64) -> Result<String, AllocError>

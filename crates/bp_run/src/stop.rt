@@ -1,10 +1,10 @@
 //! Why the files of a task give no value.
 ghost use Rattle.std.specs.Prelude.{◌≡◌};
-ghost use Rattle.bp_run.specs.Stops.{is_memory, refused_by_reader};
+ghost use Rattle.bp_run.specs.Stops.{stop_by_reader};
 ghost use Rattle.bp_run.specs.declared.stop.Stop.TheVariants.{Memory as NoMemory};
 
-use crate::{Cause, FileError};
-use bp_text::TextError;
+use crate::Cause;
+use crate::unread::Unread;
 use bp_types::Memory;
 
 /// Why the files of a task give no value. Files count from 1, in the order of the words.
@@ -27,13 +27,13 @@ impl From<Memory> for Stop {
 }
 
 impl Stop {
-    /// What it means for the call that the reader of this file answered so.
-    pub fn by_reader(file: u64, error: FileError) -> Stop
-        ensures { result ≡ refused_by_reader file error }
+    /// What it means for the call that the reader of this file gives no value.
+    pub fn by_reader(file: u64, unread: Unread) -> Stop
+        ensures { result ≡ stop_by_reader file unread }
     {
-        match error {
-            FileError::Text(TextError::Memory) => Stop::Memory,
-            _ => Stop::Refused {
+        match unread {
+            Unread::Memory => Stop::Memory,
+            Unread::Refused(error) => Stop::Refused {
                 file,
                 cause: Cause::Reader(error),
             },

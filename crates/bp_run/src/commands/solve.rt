@@ -10,7 +10,7 @@ use crate::files::problem::ProblemFile;
 use crate::stop::Stop;
 use bp_edges::Shelf;
 use bp_flow::Solver;
-use bp_types::{Certificate, Instance, Memory, Steps, law};
+use bp_types::{Certificate, Instance, Memory, Steps};
 use std::alloc::Global;
 use std::marker::Brand;
 use std::sync::ledger::{Blank, Ledger};
@@ -41,7 +41,6 @@ fn solved<L: Ledger>(
     requires some { 0 < blank.parts }
     ensures { IfOk result (IsLeastCertificate instance.now) }
 {
-    law::certificate_is_optimal();
     let mut steps: Steps<L> = Steps::new(blank);
     let solver = Solver::cold(alloc, instance, &mut steps)?;
     solver.certificate(alloc)

@@ -1,5 +1,5 @@
 -- The files of a hotel are read in one way. A command that reads them cites `hotel_plan_one_way`.
-use Rattle.std.proofs.Common.{◌≡◌, ℕ, List, Ok, Err}
+use Rattle.std.proofs.Common.{ℕ, List}
 use Rattle.bp_hotelfile.specs.Season.{Season}
 use Rattle.bp_stayfile.specs.StayList.{StayList}
 use Rattle.bp_run.specs.Words.{Word}

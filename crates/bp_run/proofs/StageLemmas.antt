@@ -1,7 +1,7 @@
 -- How what is said of plans joins. A call that reads files one after another cites `follows_stage` for each file that
 -- gave its value, and ends with `follows_stop`, `follows_nothing` or `follows_made`; one that reads a plan and then
 -- another that rests on it cites `follows_both`.
-use Rattle.std.proofs.Common.{◌≡◌, inl, inr, ℕ, ◌+◌, ◌<◌, refl, sym, subst, ◌∙◌, arith, Bool, if◌then◌else◌, false, List, length, Option, Some, IsSomeAnd, Result, Ok, Err}
+use Rattle.std.proofs.Common.{◌≡◌, inl, inr, ℕ, ◌+◌, ◌<◌, refl, sym, subst, ◌∙◌, arith, List, length, Option, Some, IsSomeAnd, Result, Ok, Err}
 use Rattle.std.specs.Option.{ForSome}
 use Rattle.std.specs.FinMap.{get}
 use Rattle.bp_edges.specs.Held.{Files}

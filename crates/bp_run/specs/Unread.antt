@@ -1,5 +1,4 @@
 -- Why a reader gives no value of a file.
-use Rattle.std.specs.Prelude.{◌≡◌}
 use Rattle.bp_text.specs.declared.text_error.TextError.{TextError}
 use Rattle.bp_text.specs.declared.text_error.TextError.TheVariants.{BadLine, Limit, TooShort, Trailing, Memory as NoTextMemory}
 use Rattle.bp_hotelfile.specs.declared.error.HotelError.{HotelError}

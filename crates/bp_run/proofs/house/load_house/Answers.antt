@@ -1,4 +1,4 @@
-use Rattle.std.proofs.Common.{refl, sym, arith}
+use Rattle.std.proofs.Common.{refl, arith}
 use Rattle.std.proofs.lemmas.Result.{err_from_is_err_and}
 use Rattle.bp_run.proofs.StageLemmas.{follows_stage, follows_stop, follows_made, follows_nothing, leaves_same}
 use Rattle.bp_run.proofs.house.load_house.Goals as goal

@@ -9,7 +9,7 @@ use bp_types::Certificate;
 /// Why a reader refuses a file, in the reader's own words.
 #[derive(Clone, Copy, Debug, PartialEq, Eq)]
 pub enum FileError {
-    /// A text of lines. It is never want of memory.
+    /// A text of lines. No end has its want of memory.
     Text(TextError),
     /// A hotel file.
     Hotel(HotelRefusal),

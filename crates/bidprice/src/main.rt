@@ -1,14 +1,21 @@
 //! The program: words from the system, files from the disk, text to standard output.
 #![tactic(auto)]
 
+ghost use Rattle.std.specs.Prelude.{◌≡◌, ◌⊎◌};
+ghost use Rattle.bp_run.specs.Words.{texts};
+ghost use Rattle.bp_run.specs.Ends.{ServesUnseen};
+ghost use Rattle.bp_run.specs.declared.status.Status.TheVariants.{NotPlain, NoMemory};
+
 use bp_edges::{FileShelf, NoGate, OutSink};
+use bp_run::Status;
+use exit::Exit;
 use std::env::Env;
-use std::process::ExitCode;
+use std::rt::Files;
+use std::sync::Wait;
+use std::thread::Threads;
 use std::{env, io};
 
-const NO_TEXT: u8 = 2;
-
-const NO_MEMORY: u8 = 6;
+mod exit;
 
 // The words behind the program's name.
 fn words<R: Env + AllocGlobal>(rt: &R) -> io::Result<Vec<String>> {
@@ -20,21 +27,29 @@ fn words<R: Env + AllocGlobal>(rt: &R) -> io::Result<Vec<String>> {
 }
 
 // The status where the system gives no words: there is no memory for them, or they are no text.
-fn no_words(error: &io::Error) -> u8 {
+fn no_words(error: &io::Error) -> Status
+    ensures { (result ≡ NotPlain) ⊎ (result ≡ NoMemory) }
+{
     if error.kind() == io::ErrorKind::OutOfMemory {
-        NO_MEMORY
+        Status::NoMemory
     } else {
-        NO_TEXT
+        Status::NotPlain
     }
 }
 
-fn main(rt: HostRuntime) -> ExitCode {
-    match words(&rt) {
-        Ok(words) => {
-            let mut shelf = FileShelf::new(&rt);
-            let mut out = OutSink::new(&rt);
-            ExitCode::from(bp_run::run(&rt, rt.alloc(), &words, &mut shelf, &mut out, &NoGate))
-        }
-        Err(error) => ExitCode::from(no_words(&error)),
-    }
+// Does the line of these words over real files and standard output, and gives the number of its status.
+fn serve<R: Files + Print + AllocGlobal + Wait + Threads + Sync>(rt: &R, words: &[String]) -> u8
+    ensures { ServesUnseen (texts words.now) result }
+{
+    let mut shelf = FileShelf::new(rt);
+    let mut out = OutSink::new(rt);
+    bp_run::run(rt, rt.alloc(), words, &mut shelf, &mut out, &NoGate)
+}
+
+fn main(rt: HostRuntime) -> Exit {
+    let number = match words(&rt) {
+        Ok(words) => serve(&rt, &words),
+        Err(error) => no_words(&error).number(),
+    };
+    Exit { number }
 }

@@ -1,77 +1,137 @@
--- From the files to the end of a call.
-use Rattle.std.proofs.Common.{◌≡◌, ◌⊎◌, ℕ, ◌≤◌, refl, ap, sym, subst, ◌∙◌, List, [], ◌∷◌, Option, inl, inr, arith, ◌==◌}
-use Rattle.std.proofs.lemmas.Bool.{cases_Bool, eqb-true, eqb-false}
+-- From the files of a command to the end of a call. The proof of a command cites `brings_stop` and `brings_answer`, that
+-- of the whole program `serves` and `serves_nothing`.
+use Rattle.std.proofs.Common.{◌≡◌, ◌≢◌, inl, inr, ℕ, ◌≤◌, refl, ap, sym, subst, ◌∙◌, arith, List, [], ◌∷◌, Ok, Err}
 use Rattle.std.specs.Prelude.{codes}
-use Rattle.bp_edges.specs.Writing.{Appended, AppendedPrefix}
-use Rattle.bp_run.specs.Words.{Word, Task, check, solve, group, Asks, IsPlain, NamesThreads, MayStartThreads}
-use Rattle.bp_edges.specs.Held.{Files}
-use Rattle.bp_run.specs.Fetches.{Fetches}
-use Rattle.bp_run.specs.Lines.{said, status_of, verdict_status}
-use Rattle.bp_run.specs.Ends.{span_of, IsGroupAnswer, IsQuoted, IsAnswer, HasEnd, Outcome, Finishes, BreaksOff}
 use Rattle.bp_cert.specs.declared.verdict.Verdict.{Verdict}
 use Rattle.bp_cert.specs.declared.verdict.Verdict.TheVariants.{WrongLength, PriceTooGreat, AboveForecast, Overfull, Gap, Misvalued, Optimal}
+use Rattle.bp_run.specs.Words.{Word, check, solve, group, IsPlain, NamesThreads, MayStartThreads}
+use Rattle.bp_run.specs.Statuses.{status_number}
+use Rattle.bp_run.specs.Fetches.{Fetches}
+use Rattle.bp_run.specs.Stops.{Follows}
+use Rattle.bp_run.specs.Command.{Command, Brings}
+use Rattle.bp_run.specs.Check.{verdict_status}
+use Rattle.bp_run.specs.Group.{group_status}
+use Rattle.bp_run.specs.Commands.{answer_status}
+use Rattle.bp_run.specs.Lines.{said, end_status}
+use Rattle.bp_run.specs.Puts.{Puts, Prints}
+use Rattle.bp_run.specs.Ends.{HasEnd, Outcome, HoldsAll, IsComplete, Serves}
+use Rattle.bp_run.specs.declared.stop.Stop.{Stop}
+use Rattle.bp_run.specs.declared.status.Status.{Status}
+use Rattle.bp_run.specs.declared.status.Status.TheVariants as status
+use Rattle.bp_run.specs.declared.end.Answer.{Answer}
+use Rattle.bp_run.specs.declared.end.Answer.TheVariants.{Checked, Solved, Grouped}
+use Rattle.bp_run.specs.declared.commands.group.GroupAnswer.{GroupAnswer}
+use Rattle.bp_run.specs.declared.commands.group.GroupAnswer.TheVariants.{Quoted, BadSpan, NoRoom}
 use Rattle.bp_run.specs.declared.end.End.{End}
-use Rattle.bp_run.specs.declared.end.End.TheVariants.{NotPlain, Fault, Refused, Checked, Solved, Quoted, BadSpan, NoRoom}
+use Rattle.bp_run.specs.declared.end.End.TheVariants.{NotPlain, Fault, Refused, Answered}
 
--- where a task has an answer, the call ends so
-pub end_of_answer : (words : List Word) (shelf : Fetches) (task : Task) (end : End) → Asks words task → IsAnswer shelf.held task end → HasEnd words shelf end
-end_of_answer words shelf (check p c) end asks (verdict, is, checked) =
-    let P : End → Type 0 = λ e. HasEnd words shelf e in subst P (sym is) (check p c, asks, (verdict, refl, checked))
-end_of_answer words shelf (solve p) end asks (claim, is, solved) =
-    let P : End → Type 0 = λ e. HasEnd words shelf e in subst P (sym is) (solve p, asks, (claim, refl, solved))
-end_of_answer words shelf (group p from to rooms) end asks quoted = of_group end quoted
-  where
-    of_group : (end : End) → IsQuoted shelf.held p (span_of from to) rooms end → HasEnd words shelf end
-    of_group NotPlain quoted = absurd quoted.answer
-    of_group (Fault file) quoted = absurd quoted.answer
-    of_group (Refused file cause) quoted = absurd quoted.answer
-    of_group (Checked verdict) quoted = absurd quoted.answer
-    of_group (Solved claim) quoted = absurd quoted.answer
-    of_group (Quoted displacement before after) quoted = (group p from to rooms, asks, quoted)
-    of_group BadSpan quoted = (group p from to rooms, asks, quoted)
-    of_group (NoRoom night) quoted = (group p from to rooms, asks, quoted)
+-- a command whose files stop, stops
+pub brings_stop : (shelf : Fetches) (command : Command) (next : ℕ) (stop : Stop) → Follows shelf command.plan 1 next (Err stop) → Brings shelf command (Err stop)
+brings_stop shelf command next stop follows = record { stops = follows.answers; unfailing = follows.unfailing }
 
-verdict_is_no_fault : (verdict : Verdict) → verdict_status verdict ≡ 4 → ⊥
-verdict_is_no_fault (Optimal value) e = omega (arith, e)
-verdict_is_no_fault WrongLength e = omega (arith, e)
-verdict_is_no_fault (PriceTooGreat night) e = omega (arith, e)
-verdict_is_no_fault (AboveForecast stay) e = omega (arith, e)
-verdict_is_no_fault (Overfull night taken) e = omega (arith, e)
-verdict_is_no_fault (Gap value over) e = omega (arith, e)
-verdict_is_no_fault (Misvalued value) e = omega (arith, e)
+-- a command whose files give something answers it
+pub brings_answer : (shelf : Fetches) (command : Command) (next : ℕ) (given : command.Given) (own : command.Own)
+    → Follows shelf command.plan 1 next (Ok given) → command.IsRight given own → Brings shelf command (Ok own)
+brings_answer shelf command next given own follows right = record { given = given; next = next; gives = follows.answers; right = right }
 
--- no answer has status 4
-pub answer_is_no_fault : (held : Option Files) (task : Task) (end : End) → IsAnswer held task end → status_of end ≡ 4 → ⊥
-answer_is_no_fault held (check p c) end (verdict, is, checked) e = verdict_is_no_fault verdict (sym (ap status_of is) ∙ e)
-answer_is_no_fault held (solve p) end (claim, is, solved) e = omega (arith, ap status_of is, e)
-answer_is_no_fault held (group p from to rooms) end quoted e = of_group end quoted.answer e
-  where
-    of_group : (end : End) → IsGroupAnswer quoted.instance (span_of from to) rooms end → status_of end ≡ 4 → ⊥
-    of_group NotPlain answer e = answer
-    of_group (Fault file) answer e = answer
-    of_group (Refused file cause) answer e = answer
-    of_group (Checked verdict) answer e = answer
-    of_group (Solved claim) answer e = answer
-    of_group (Quoted displacement before after) answer e = omega (arith, e)
-    of_group BadSpan answer e = omega (arith, e)
-    of_group (NoRoom night) answer e = omega (arith, e)
+-- a verdict is done or wrong
+pub verdict_number : (verdict : Verdict) → status_number (verdict_status verdict) ≤ 1
+verdict_number (Optimal value) = omega arith
+verdict_number WrongLength = omega arith
+verdict_number (PriceTooGreat night) = omega arith
+verdict_number (AboveForecast stay) = omega arith
+verdict_number (Overfull night load) = omega arith
+verdict_number (Gap worth bound) = omega arith
+verdict_number (Misvalued worth) = omega arith
+
+-- a group is done or refused
+group_number : (answer : GroupAnswer) → status_number (group_status answer) ≤ 3
+group_number (Quoted displacement before after) = omega arith
+group_number BadSpan = omega arith
+group_number (NoRoom night) = omega arith
+
+-- an answer is done, wrong or refused
+answer_number : (answer : Answer) → status_number (answer_status answer) ≤ 3
+answer_number (Checked verdict) = let least = verdict_number verdict in omega arith
+answer_number (Solved claim) = omega arith
+answer_number (Grouped answer) = group_number answer
+
+-- so no answer is a fault
+pub answer_is_no_fault : (answer : Answer) → answer_status answer ≢ status.Fault
+answer_is_no_fault answer is = let small = answer_number answer in let four = ap status_number is in omega arith
+
+-- the status of an end is at most that of a fault
+end_number : (end : End) → status_number (end_status end) ≤ 4
+end_number NotPlain = omega arith
+end_number (Fault file) = omega arith
+end_number (Refused file cause) = omega arith
+end_number (Answered answer) = let small = answer_number answer in omega arith
+
+-- an end that is written has a status that is known
+pub known : (out : Puts) (end : End) (s : Status) → Prints out end s → status_number s ≤ 6
+known out end s (inl (is, written)) = let small = end_number end in let same = ap status_number is in omega arith
+known out end s (inr (inl (is, cut))) = let same = ap status_number is in omega arith
+known out end s (inr (inr (is, part))) = let same = ap status_number is in omega arith
 
 -- an end has its status and its text
-outcome : (words : List Word) (shelf : Fetches) (end : End) → HasEnd words shelf end → Outcome words shelf (status_of end) (said end)
+outcome : (words : List Word) (shelf : Fetches) (end : End) → HasEnd words shelf end → Outcome words shelf (status_number (end_status end)) (said end)
 outcome words shelf end has = record { end = end; has = has; status_is = refl; text_is = refl }
 
--- so its whole text is the text of its status
-pub finishes : (words : List Word) (shelf : Fetches) (end : End) {before now : Option (List ℕ)} {status : ℕ} → HasEnd words shelf end
-    → (status ≡ status_of end) × Appended before now (said end) → Finishes words shelf status before now
-finishes words shelf end has (is, written) =
-    let P : ℕ → Type 0 = λ s. Outcome words shelf s (said end) in
-    record { text = said end; outcome = subst P (sym is) (outcome words shelf end has); written = written }
+-- an end that is written serves the words, where it is no fault that a steady shelf rules out, and small where the words
+-- are complete
+module _ (words : List Word) (shelf : Fetches) (out : Puts) (end : End) (has : HasEnd words shelf end)
+    (no_fault : shelf.before.steady → HoldsAll words shelf.before.held → end_status end ≢ status.Fault)
+    (small : shelf.before.steady → IsComplete words shelf.before.held → status_number (end_status end) ≤ 1) where
+  at_end : (s : Status) → Prints out end s → Serves words shelf out (status_number s)
+  at_end s (inl (is, written)) =
+      let same : status_number s ≡ status_number (end_status end) = ap status_number is in
+      let below = end_number end in record {
+        done = λ not_cut not_empty. (let P : ℕ → Type 0 = λ n. Outcome words shelf n (said end) in
+            record { text = said end; outcome = subst P (sym same) (outcome words shelf end has); written = written });
+        cut_off = λ five. absurd (omega arith);
+        no_memory = λ six. absurd (omega arith);
+        steady_shelf = λ steady holds four. no_fault steady holds (fault_of end (sym same ∙ four));
+        steady_sink = λ steady five. absurd (omega arith);
+        complete = λ steady sink all. (let few = small steady all in inl (omega arith));
+      }
+    where
+      fault_of : (e : End) → status_number (end_status e) ≡ 4 → end_status e ≡ status.Fault
+      fault_of NotPlain four = absurd (omega arith)
+      fault_of (Fault file) four = refl
+      fault_of (Refused file cause) four = absurd (omega arith)
+      fault_of (Answered answer) four = absurd (let few = answer_number answer in omega arith)
+  at_end s (inr (inl (is, cut))) =
+      let same : status_number s ≡ 5 = ap status_number is in record {
+        done = λ not_cut not_empty. absurd (not_cut same);
+        cut_off = λ five. (cut.rose, record { number = status_number (end_status end); text = said end; outcome = outcome words shelf end has; written = cut.written });
+        no_memory = λ six. absurd (omega arith);
+        steady_shelf = λ steady holds four. omega arith;
+        steady_sink = λ steady five. cut.unsteady steady;
+        complete = λ steady sink all. absurd (cut.unsteady sink);
+      }
+  at_end s (inr (inr (is, part))) =
+      let same : status_number s ≡ 6 = ap status_number is in record {
+        done = λ not_cut not_empty. absurd (not_empty same);
+        cut_off = λ five. absurd (omega arith);
+        no_memory = λ six. inr (record { number = status_number (end_status end); text = said end; outcome = outcome words shelf end has; written = part });
+        steady_shelf = λ steady holds four. omega arith;
+        steady_sink = λ steady five. omega arith;
+        complete = λ steady sink all. inr same;
+      }
 
--- so a first part of its text is a first part of the text of a status
-pub breaks_off : (words : List Word) (shelf : Fetches) (end : End) {before now : Option (List ℕ)} → HasEnd words shelf end
-    → AppendedPrefix before now (said end) → BreaksOff words shelf before now
-breaks_off words shelf end has written =
-    record { status = status_of end; text = said end; outcome = outcome words shelf end has; written = written }
+  pub serves : (s : Status) (number : ℕ) → number ≡ status_number s → Prints out end s → Serves words shelf out number
+  serves s number is prints = let P : ℕ → Type 0 = λ n. Serves words shelf out n in subst P (sym is) (at_end s prints)
+
+-- a call that finds no memory before it writes
+pub serves_nothing : (words : List Word) (shelf : Fetches) (out : Puts) (number : ℕ) → number ≡ 6 → out.now.written ≡ out.before.written → Serves words shelf out number
+serves_nothing words shelf out number is same = record {
+  done = λ not_cut not_empty. absurd (not_empty is);
+  cut_off = λ five. absurd (omega arith);
+  no_memory = λ six. inl same;
+  steady_shelf = λ steady holds four. omega arith;
+  steady_sink = λ steady five. omega arith;
+  complete = λ steady sink all. inr is;
+}
 
 -- a plain command is none that may start threads
 threads_apart : (first command : Word) → first ≡ command → (command ≡ codes "desk" → ⊥) → (command ≡ codes "scenarios" → ⊥) → (command ≡ codes "portfolio" → ⊥) → NamesThreads first → ⊥
@@ -91,17 +151,3 @@ threads_not_plain (first ∷ rest) may (solve p, asks) =
 threads_not_plain (first ∷ rest) may (group p from to rooms, asks) =
     let words = asks.words_are in
     let is : first ≡ codes "group" = cc in threads_apart first (codes "group") is (λ e. cc) (λ e. cc) (λ e. cc) may
-
--- a call that finds memory and no fault ends with the status of its end
-pub done_or_no_memory : (status : ℕ) (end : End) → status ≤ 6 → (status ≤ 4 → status ≡ status_of end) → (status ≡ 5 → ⊥) → status_of end ≤ 1
-    → (status ≤ 1) ⊎ (status ≡ 6)
-done_or_no_memory status end known done no_cut small =
-    elim (cases_Bool (status == 6)) [
-      | inl at_six ↦ inr (eqb-true status 6 at_six)
-      | inr other ↦ inl (below (eqb-false status 6 other))
-    ]
-  where
-    below : (status ≡ 6 → ⊥) → status ≤ 1
-    below not_six =
-        let four : status ≤ 4 = omega arith in
-        let is = done four in omega arith

@@ -1,4 +1,12 @@
+-- the words of a line
 pub mod WordLemmas
-pub mod FileLemmas
+-- how what is said of plans joins
+pub mod StageLemmas
+-- from the files of a command to the end of a call
 pub mod EndLemmas
+-- good files are not refused
 pub mod CompleteLemmas
+-- the files of a hotel are read in one way
+pub mod HotelOneWay
+-- what each kind of file and each command owes to completeness
+pub mod SoundCommands

@@ -1,56 +1,55 @@
 -- What a shelf holds and counts over a call, and what follows for one file.
-use Rattle.std.specs.Prelude.{◌≡◌, ℕ, ◌+◌, ◌<◌, List, ◌∷◌, ◌++◌, length, true, All, Option, IsSomeAnd}
+use Rattle.std.specs.Prelude.{◌≡◌, ℕ, ◌<◌, ◌≤◌, List, length, true, Option, IsSomeAnd}
 use Rattle.std.specs.Option.{ForSome}
 use Rattle.std.specs.FinMap.{get}
 use Rattle.bp_edges.specs.Counts.{Rose}
 use Rattle.bp_edges.specs.Held.{Files, Fetch}
-use Rattle.bp_run.specs.Files.{NamedFile, IsGood, HasCause, most_bytes}
+use Rattle.bp_run.specs.Words.{Word}
+use Rattle.bp_run.specs.Stages.{Stage, IsRead}
 use Rattle.bp_run.specs.declared.end.Cause.{Cause}
-use Rattle.bp_run.specs.declared.end.Cause.TheVariants.{TooLong}
+use Rattle.bp_run.specs.declared.end.Cause.TheVariants.{TooLong, Reader}
 
--- what the shelf holds, where it tells; its counts before the call and after it; its newest fetch
-pub record Fetches : Type 0 where
+-- what a shelf tells at one moment: what it holds, its counts, its newest fetch, and that none of its files fails
+pub record Shelved : Type 1 where
   pub held : Option Files
-  pub faults_before : ℕ
   pub faults : ℕ
-  pub fetches_before : ℕ
   pub fetches : ℕ
   pub last : Fetch
+  pub steady : Type 0
 
--- the same, by what a shelf tells at two moments
-abbrev pub over : {S : Type 0} → (S → Option Files) → (S → ℕ) → (S → ℕ) → (S → Fetch) → S → S → Fetches
-over held faults fetches last before now = record {
-  held = held before;
-  faults_before = faults before;
-  faults = faults now;
-  fetches_before = fetches before;
-  fetches = fetches now;
-  last = last now;
+-- the moments before a call and after it
+pub record Fetches : Type 1 where
+  pub before : Shelved
+  pub now : Shelved
+
+-- the same, by what a shelf tells
+abbrev pub over : {S : Type 0} → (S → Option Files) → (S → ℕ) → (S → ℕ) → (S → Fetch) → (S → Type 0) → S → S → Fetches
+over held faults fetches last steady old new = record {
+  before = record { held = held old; faults = faults old; fetches = fetches old; last = last old; steady = steady old };
+  now = record { held = held new; faults = faults new; fetches = fetches new; last = last new; steady = steady new };
 }
 
--- the shelf failed at this file: its faults rose, and its newest fetch is of this file and failed
-pub record Fails (shelf : Fetches) (file : NamedFile) : Type 0 where
-  pub rose : Rose shelf.faults_before shelf.faults
-  pub name : shelf.last.name ≡ file.name
-  pub failed : shelf.last.failed ≡ true
+-- what every call leaves: what is held stays, so does that nothing fails, and no count goes back
+pub record Leaves (shelf : Fetches) : Type 0 where
+  pub held : shelf.now.held ≡ shelf.before.held
+  pub steady : shelf.before.steady → shelf.now.steady
+  pub faults : shelf.before.faults ≤ shelf.now.faults
+  pub fetches : shelf.before.fetches ≤ shelf.now.fetches
 
--- the shelf took more of this file than it may have: its fetches rose, and its newest fetch is of this file
-pub record TookTooMuch (shelf : Fetches) (file : NamedFile) : Type 0 where
-  pub rose : Rose shelf.fetches_before shelf.fetches
-  pub name : shelf.last.name ≡ file.name
-  pub more : most_bytes file.kind < shelf.last.taken
+-- the shelf failed at the file with this name: its faults rose, and its newest fetch is of this file and failed
+pub record Fails (shelf : Fetches) (name : Word) : Type 0 where
+  pub rose : Rose shelf.before.faults shelf.now.faults
+  pub named : shelf.now.last.name ≡ name
+  pub failed : shelf.now.last.failed ≡ true
 
--- this file is refused: for what it holds, where that is told, and too long only where so much was taken
-pub record IsRefusedFor (shelf : Fetches) (cause : Cause) (file : NamedFile) : Type 0 where
-  pub told : ForSome shelf.held (λ held. IsSomeAnd (get held file.name) (λ bytes. HasCause file.kind bytes cause))
-  pub too_long : cause ≡ TooLong → TookTooMuch shelf file
+-- the file is too long: so it is where that is told, and more of it was taken
+pub record IsTooLong (shelf : Fetches) (name : Word) (most : ℕ) : Type 0 where
+  pub told : ForSome shelf.before.held (λ held. IsSomeAnd (get held name) (λ bytes. most < length bytes))
+  pub rose : Rose shelf.before.fetches shelf.now.fetches
+  pub named : shelf.now.last.name ≡ name
+  pub more : most < shelf.now.last.taken
 
--- P holds of the file with this number, counted from 1, and every file before it is good, where that is told
-pub record ComesAt (held : Option Files) (P : NamedFile → Type 0) (all : List NamedFile) (number : ℕ) : Type 0 where
-  pub before : List NamedFile
-  pub file : NamedFile
-  pub after : List NamedFile
-  pub splits : all ≡ before ++ file ∷ after
-  pub counted : number ≡ length before + 1
-  pub good : ForSome held (λ files. All (IsGood files) before)
-  pub here : P file
+-- this file is refused: it is too long, or short enough and refused by its reader
+abbrev pub IsRefusedFor : Fetches → Cause → Stage → Type 0
+IsRefusedFor shelf TooLong s = IsTooLong shelf s.name s.most
+IsRefusedFor shelf (Reader e) s = (bytes : List ℕ) × IsRead shelf.before.held s.name s.most bytes × s.Refuses bytes e

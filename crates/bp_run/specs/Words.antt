@@ -2,6 +2,7 @@
 use Rattle.std.specs.Prelude.{◌≡◌, ◌≢◌, ◌⊎◌, ℕ, ◌≤◌, List, [], ◌∷◌, length, map, codes, String, string_bytes}
 use Rattle.std.specs.Str.Parse.{IsNumeral, digits_value}
 use Rattle.std.specs.declared.alloc.Global.{Global}
+use Rattle.bp_types.specs.declared.limits.TheConstants.{MOST_GROUP_ROOMS}
 
 -- a word of a line, by its bytes
 abbrev pub Word : Type 0
@@ -42,7 +43,7 @@ pub record AsksGroup (words : List Word) (problem : Word) (from to rooms : ℕ) 
   pub to_is : IsNumber to_word to
   pub rooms_is : IsNumber rooms_word rooms
   pub some_rooms : 1 ≤ rooms
-  pub few_rooms : rooms ≤ 10000
+  pub few_rooms : rooms ≤ MOST_GROUP_ROOMS
 
 -- the words ask for this task, word for word
 abbrev pub Asks : List Word → Task → Type 0

@@ -1,16 +1,23 @@
 //! The whole program: from words and files to a status and a text.
 #![tactic(auto)]
 
+mod commands;
 mod end;
 mod files;
+mod house;
 mod lines;
 mod outcome;
 mod print;
-mod solve;
+mod refusals;
+mod status;
+mod stop;
 mod task;
 mod top;
+mod unread;
 
-pub use end::{Cause, End};
+pub use commands::group::GroupAnswer;
+pub use end::{Answer, Cause, End, FileError};
+pub use status::Status;
 pub use top::{run, run_plain};
 
 #[cfg(test)]

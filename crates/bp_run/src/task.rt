@@ -3,8 +3,7 @@ ghost use Rattle.std.specs.Prelude.{◌≡◌, ◌↔◌, ℕ, ◌∷◌, [], Is
 ghost use Rattle.bp_run.specs.Words.{texts, IsFileName, IsNumber, IsPlain, Asks, NamesThreads, MayStartThreads};
 ghost use Rattle.bp_run.specs.Asked.{asked};
 
-/// The most rooms of a group.
-const MOST_ROOMS: u32 = 10_000;
+use bp_types::limits::MOST_GROUP_ROOMS;
 
 /// What a plain line asks for, with the names of its files.
 #[derive(Clone, Copy)]
@@ -84,15 +83,15 @@ fn group_of<'a>(
     }
     let from = number_of(from)?;
     let to = number_of(to)?;
-    let rooms = number_of(rooms)?;
-    if rooms < 1 || rooms > MOST_ROOMS {
+    let rooms = u64::from(number_of(rooms)?);
+    if rooms < 1 || rooms > MOST_GROUP_ROOMS {
         return None;
     }
     Some(Task::Group {
         problem,
         from,
         to,
-        rooms: u64::from(rooms),
+        rooms,
     })
 }
 

@@ -1,0 +1,76 @@
+-- What each kind of file and each command owes to completeness.
+use Rattle.std.proofs.Common.{◌≡◌, ◌≤◌, ◌-◌, ℕ, arith, List, length, Some, Ok, Err, slice_index}
+use Rattle.std.specs.Prelude.{nat_lt}
+use Rattle.std.proofs.lemmas.Bool.{ltb-true}
+use Rattle.bp_types.specs.Program.{Program}
+use Rattle.bp_types.specs.declared.stay.Span.{Span}
+use Rattle.bp_types.specs.Spans.{IsSpanWithin, first_short}
+use Rattle.bp_types.specs.Changes.{HasUnits}
+use Rattle.bp_types.proofs.Firsts.{first_passes}
+use Rattle.bp_text.specs.Lines.{Line}
+use Rattle.bp_text.specs.Reading.{IsText}
+use Rattle.bp_text.specs.Laws.{IsReadOneWay as TextsReadOneWay}
+use Rattle.bp_cert.specs.Texts.{problem_lines, all_certificate_lines, IsProblem, IsSpeakable}
+use Rattle.bp_run.specs.Words.{Word, Task, check, solve, group}
+use Rattle.bp_run.specs.Statuses.{status_number}
+use Rattle.bp_run.specs.Stages.{IsReadOneWay}
+use Rattle.bp_run.specs.TextFiles.{IsNoText, problem_file, certificate_file}
+use Rattle.bp_run.specs.Group.{IsGroupAnswer, group_status, span_of}
+use Rattle.bp_run.specs.Commands.{command_of}
+use Rattle.bp_run.specs.declared.commands.group.GroupAnswer.{GroupAnswer}
+use Rattle.bp_run.specs.declared.commands.group.GroupAnswer.TheVariants.{Quoted, BadSpan, NoRoom}
+use Rattle.bp_run.specs.declared.end.FileError.{FileError}
+use Rattle.bp_run.specs.declared.end.FileError.TheVariants.{Text, Hotel, Table}
+use Rattle.bp_run.proofs.CompleteLemmas.{IsSound}
+use Rattle.bp_run.proofs.EndLemmas.{verdict_number}
+
+-- both kinds of text are read in one way
+pub record AreTextsReadOneWay : Type 0 where
+  pub problems : TextsReadOneWay problem_lines IsProblem
+  pub certificates : TextsReadOneWay all_certificate_lines IsSpeakable
+
+-- a kind of text that is read in one way
+module _ {V : Type 0} (lines : V → List Line) (Within : V → Type 0) (law : TextsReadOneWay lines Within) where
+  one_text : (bytes : List ℕ) (v w : V) → IsText lines Within bytes (Ok v) → IsText lines Within bytes (Ok w) → v ≡ w
+  one_text bytes v w a b = let same = law bytes (Ok v) (Ok w) (λ e. cc) (λ e. cc) a b in cc
+
+  no_text : (bytes : List ℕ) (v : V) (e : FileError) → IsText lines Within bytes (Ok v) → IsNoText lines Within bytes e → ⊥
+  no_text bytes v (Text e) a (other, refused) =
+      let same = law bytes (Ok v) (Err e) (λ x. cc) (λ x. other (cc)) a refused in cc
+  no_text bytes v (Hotel e) a refused = refused
+  no_text bytes v (Table e) a refused = refused
+
+problem_one_way : AreTextsReadOneWay → (name : Word) → IsReadOneWay (problem_file name)
+problem_one_way law name = record { one_value = one_text problem_lines IsProblem law.problems; not_both = no_text problem_lines IsProblem law.problems }
+
+certificate_one_way : AreTextsReadOneWay → (name : Word) → IsReadOneWay (certificate_file name)
+certificate_one_way law name =
+    record { one_value = one_text all_certificate_lines IsSpeakable law.certificates; not_both = no_text all_certificate_lines IsSpeakable law.certificates }
+
+-- where each night of a span has the units, none is short
+short_of_none : (p : Program) (span : Span) (units night : ℕ) → IsSpanWithin (length p.rooms) span × HasUnits p span units → first_short (slice_index p.rooms) span units ≡ Some night → ⊥
+short_of_none p span units night (is_span, has) found =
+    let first = first_passes (λ n. nat_lt (slice_index p.rooms n) units) span.from (span.to - span.from) night found in
+    omega (arith, has night first.above (omega (arith, first.below, is_span.0)), ltb-true (slice_index p.rooms night) units first.passes)
+
+-- a group whose nights are there and have the rooms is quoted
+group_ends : (p : Program) (span : Span) (rooms : ℕ) (answer : GroupAnswer) → IsSpanWithin (length p.rooms) span × HasUnits p span rooms → IsGroupAnswer p span rooms answer
+    → status_number (group_status answer) ≤ 1
+group_ends p span rooms (Quoted displacement before after) served is = omega arith
+group_ends p span rooms BadSpan served is = absurd (is served.0)
+group_ends p span rooms (NoRoom night) served is = absurd (short_of_none p span rooms night served is.1)
+
+-- each command
+pub sound : AreTextsReadOneWay → (task : Task) → IsSound (command_of task)
+sound law (check p c) = record {
+  one_way = (problem_one_way law p, λ v. (certificate_one_way law c, λ w. tt));
+  ends = λ g verdict served right. verdict_number verdict;
+}
+sound law (solve p) = record {
+  one_way = (problem_one_way law p, λ v. tt);
+  ends = λ g claim served right. omega arith;
+}
+sound law (group p from to rooms) = record {
+  one_way = (problem_one_way law p, λ v. tt);
+  ends = λ g answer served right. group_ends g (span_of from to) rooms answer served right;
+}

@@ -1,0 +1,30 @@
+-- The commands of all tasks, and what their answers say.
+use Rattle.std.specs.Prelude.{ℕ, List}
+use Rattle.bp_cert.specs.Texts.{certificate_text}
+use Rattle.bp_run.specs.Words.{Task, check, solve, group}
+use Rattle.bp_run.specs.Command.{Command}
+use Rattle.bp_run.specs.Check.{check_command, verdict_line, verdict_status}
+use Rattle.bp_run.specs.Solve.{solve_command}
+use Rattle.bp_run.specs.Group.{group_command, group_said, group_status, span_of}
+use Rattle.bp_run.specs.declared.status.Status.{Status}
+use Rattle.bp_run.specs.declared.status.Status.TheVariants.{Done}
+use Rattle.bp_run.specs.declared.end.Answer.{Answer}
+use Rattle.bp_run.specs.declared.end.Answer.TheVariants.{Checked, Solved, Grouped}
+
+-- the command of a task
+abbrev pub command_of : Task → Command
+command_of (check p c) = check_command p c
+command_of (solve p) = solve_command p
+command_of (group p from to rooms) = group_command p (span_of from to) rooms
+
+-- what an answer says
+abbrev pub answer_said : Answer → List ℕ
+answer_said (Checked verdict) = verdict_line verdict
+answer_said (Solved claim) = certificate_text claim
+answer_said (Grouped answer) = group_said answer
+
+-- the status of an answer
+abbrev pub answer_status : Answer → Status
+answer_status (Checked verdict) = verdict_status verdict
+answer_status (Solved claim) = Done
+answer_status (Grouped answer) = group_status answer

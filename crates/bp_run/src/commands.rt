@@ -1,0 +1,65 @@
+//! The commands, one file each: its answer, and the status and the text of the answer.
+ghost use Rattle.std.specs.Prelude.{◌≡◌, IfOk};
+ghost use Rattle.bp_run.specs.Asked.{asked};
+ghost use Rattle.bp_run.specs.Fetches.{over};
+ghost use Rattle.bp_run.specs.Commands.{command_of, answer_status, answer_said};
+ghost use Rattle.bp_run.specs.Command.{Concludes};
+
+use crate::stop::Stop;
+use crate::task::Task;
+use crate::{Answer, Status};
+use bp_cert::text_of_certificate;
+use bp_edges::Shelf;
+use bp_types::Span;
+use std::alloc::{AllocError, Global};
+
+pub mod check;
+pub mod group;
+pub mod solve;
+
+/// The answer to a task. Its files are read in their order, up to the first that gives no value.
+pub fn answer<S: Shelf>(alloc: Global, shelf: &mut S, task: &Task<'_>) -> Result<Answer, Stop>
+    ensures { Concludes (over S.held S.faults S.fetches S.last S.steady shelf.old shelf.new) (command_of (asked task.now)) result }
+{
+    match task {
+        Task::Check {
+            problem,
+            certificate,
+        } => Ok(Answer::Checked(check::answer(alloc, shelf, problem, certificate)?)),
+        Task::Solve { problem } => Ok(Answer::Solved(solve::answer(alloc, shelf, problem)?)),
+        Task::Group {
+            problem,
+            from,
+            to,
+            rooms,
+        } => {
+            let span = Span {
+                from: *from,
+                to: *to,
+            };
+            Ok(Answer::Grouped(group::answer(alloc, shelf, problem, span, *rooms)?))
+        }
+    }
+}
+
+/// The status of an answer.
+pub fn status_of(answer: &Answer) -> Status
+    ensures { result ≡ answer_status answer.now }
+{
+    match answer {
+        Answer::Checked(verdict) => check::status_of(*verdict),
+        Answer::Solved(_) => Status::Done,
+        Answer::Grouped(group) => group::status_of(group),
+    }
+}
+
+/// The text of an answer.
+pub fn text_of(alloc: Global, answer: &Answer) -> Result<Vec<u8>, AllocError>
+    ensures { IfOk result (λ text. text.items ≡ answer_said answer.now) }
+{
+    match answer {
+        Answer::Checked(verdict) => check::text_of(alloc, *verdict),
+        Answer::Solved(certificate) => text_of_certificate(alloc, certificate),
+        Answer::Grouped(group) => group::text_of(alloc, group),
+    }
+}

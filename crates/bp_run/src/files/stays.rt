@@ -1,0 +1,39 @@
+//! The stays file.
+ghost use Rattle.std.specs.Prelude.{◌≡◌, length, Ok};
+ghost use Rattle.bp_stayfile.specs.Stays.{stays_file};
+ghost use Rattle.bp_run.specs.Stages.{most_bytes};
+ghost use Rattle.bp_run.specs.HotelFiles.{AreNoStays};
+
+use crate::files::{Kind, MOST_BYTES};
+use crate::unread::Unread;
+use bp_hotelfile::Hotel;
+use bp_stayfile::{Stays, read_stays};
+use std::alloc::Global;
+
+/// The stays of this hotel.
+#[derive(Clone, Copy)]
+pub struct StaysFile<'a> {
+    pub hotel: &'a Hotel,
+}
+
+impl<'a> Kind for StaysFile<'a> {
+    type Value = Stays;
+
+    ghost most = { λ k. most_bytes };
+
+    ghost needs = { λ k. Unit {0} };
+
+    ghost accepts = { λ k bytes stays. stays_file k.hotel.now bytes ≡ Ok stays };
+
+    ghost refuses = { λ k. AreNoStays k.hotel.now };
+
+    ghost keeps = { λ k stays. stays.nights ≡ length k.hotel.now.rooms };
+
+    fn most_bytes(&self) -> u64 {
+        MOST_BYTES
+    }
+
+    fn read(&self, alloc: Global, bytes: &[u8]) -> Result<Stays, Unread> {
+        Ok(read_stays(alloc, self.hotel, bytes)?)
+    }
+}

@@ -20,8 +20,10 @@ cat > "$crate/src/main.rt" <<'RATTLE'
 // With a fifth word, a number: the fewest nanoseconds that the three tables took in so many readings.
 #![tactic(auto)]
 
-use bp_hotelfile::{Hotel, HotelError, read_hotel};
-use bp_stayfile::{Codes, TableError, read_bookings, read_forecast, read_stays};
+use bp_hotelfile::{Hotel, HotelError, HotelRefusal, read_hotel};
+use bp_stayfile::{
+    Sold, Stays, TableError, TableRefusal, read_bookings, read_forecast, read_stays,
+};
 use bp_types::Stay;
 use std::alloc::Global;
 use std::env::Env;
@@ -34,8 +36,8 @@ use std::{env, fs, io};
 #[derive(Drop)]
 enum Stop {
     Memory,
-    Hotel(HotelError),
-    Table(TableError),
+    Hotel(HotelRefusal),
+    Table(TableRefusal),
     Words,
     Failed,
 }
@@ -44,7 +46,7 @@ impl From<HotelError> for Stop {
     fn from(error: HotelError) -> Stop {
         match error {
             HotelError::Memory => Stop::Memory,
-            error => Stop::Hotel(error),
+            HotelError::Refused(refusal) => Stop::Hotel(refusal),
         }
     }
 }
@@ -53,7 +55,7 @@ impl From<TableError> for Stop {
     fn from(error: TableError) -> Stop {
         match error {
             TableError::Memory => Stop::Memory,
-            error => Stop::Table(error),
+            TableError::Refused(refusal) => Stop::Table(refusal),
         }
     }
 }
@@ -78,16 +80,15 @@ struct Texts {
 
 #[derive(Drop)]
 struct Tables {
-    codes: Codes,
-    stays: Vec<Stay>,
-    sold: Vec<u64>,
+    stays: Stays,
+    sold: Sold,
 }
 
 fn tables_of(alloc: Global, hotel: &Hotel, texts: &Texts) -> Result<Tables, TableError> {
-    let (codes, mut stays) = read_stays(alloc, hotel, &texts.stays)?;
-    read_forecast(alloc, &codes, &mut stays, &texts.forecast)?;
-    let sold = read_bookings(alloc, hotel, &codes, &stays, &texts.bookings)?;
-    Ok(Tables { codes, stays, sold })
+    let mut stays = read_stays(alloc, hotel, &texts.stays)?;
+    read_forecast(alloc, &mut stays, &texts.forecast)?;
+    let sold = read_bookings(alloc, hotel, &stays, &texts.bookings)?;
+    Ok(Tables { stays, sold })
 }
 
 // The fewest nanoseconds of so many readings of the tables.
@@ -121,22 +122,19 @@ fn print_hotel<R: Print>(rt: &R, hotel: &Hotel) -> Result<(), io::Error> {
 }
 
 fn print_tables<R: Print>(rt: &R, tables: &Tables) -> Result<(), io::Error> {
-    for stay in 0..tables.codes.count() {
-        if (stay as usize) < tables.stays.len() {
+    let (codes, stays) = (tables.stays.codes(), tables.stays.as_slice());
+    for stay in 0..codes.count() {
+        if (stay as usize) < stays.len() {
             let Stay {
                 span,
                 rate,
                 forecast,
-            } = tables.stays[stay as usize];
-            println!(rt;
-                "stay {} {} {} {rate} {forecast}",
-                tables.codes.code(stay),
-                span.from,
-                span.to
-            )?;
+            } = stays[stay as usize];
+            let code = codes.code(stay);
+            println!(rt; "stay {code} {} {} {rate} {forecast}", span.from, span.to)?;
         }
     }
-    for sold in &tables.sold {
+    for sold in tables.sold.as_slice() {
         println!(rt; "sold {sold}")?;
     }
     Ok(())
@@ -199,12 +197,15 @@ fn main(rt: HostRuntime) -> ExitCode {
 RATTLE
 
 cat > "$crate/proofs/tables_of/Answers.antt" <<'ANTT'
-use Rattle.std.proofs.Common.{length}
+use Rattle.std.proofs.Common.{◌∙◌}
+use Rattle.bp_stayfile.proofs.StayLemmas.{stays_file-tells}
+use Rattle.bp_stayfile.proofs.ForecastLemmas.{forecast_file-tells}
 use Rattle.house.proofs.tables_of.Goals as goal
 
-pub read_bookings-requires-clause-spans : goal.read_bookings-requires-clause-spans
-read_bookings-requires-clause-spans c =
-    rw c.deref-3.ensures.value ((c.read_forecast.ensures.limits (length c.args.hotel.now.rooms) c.in_ok-codes.ensures.limits).spans)
+pub read_bookings-requires : goal.read_bookings-requires
+read_bookings-requires c =
+    let (list, nights) = stays_file-tells c.args.hotel.now _ c.in_ok-stays.stays c.in_ok-stays.ensures.read in
+    (forecast_file-tells c.in_ok-stays.stays c.read_forecast.new.stays _ list c.in_ok-read_forecast.ensures.read).1 ∙ nights
 ANTT
 
 if ! (cd "$crate" && rt run -- data/hotel.toml data/stays.csv data/forecast.csv data/bookings.csv) > "$work/log" 2>&1; then

@@ -61,7 +61,3 @@ FitInTurn p (change ∷ changes) = Fits p change × FitInTurn (changed p change)
 pub record Leads (p : Program) (changes : List Change) (q : Program) : Type 0 where
   pub fits : FitInTurn p changes
   pub gives : changed_by_all p changes ≡ q
-
--- a name that goes once nobody cites it
-abbrev pub IsSpanOf : Program → Span → Type 0
-IsSpanOf p s = IsSpanWithin (length p.rooms) s

@@ -71,10 +71,3 @@ units_left h n = h.limits.unit * (slice_index h.rooms n - slice_index h.sold n)
 -- the program of a house in its units: the rooms left, and the stays
 abbrev pub opening : Inn → Program
 opening h = record { rooms = map (units_left h) (range_with_len 0 (length h.rooms)); stays = h.stays }
-
--- names that go once nobody cites them
-abbrev pub most_house_rooms : ℕ
-most_house_rooms = MOST_ROOMS
-
-abbrev pub most_entries : ℕ
-most_entries = MOST_ENTRIES

@@ -41,19 +41,3 @@ pub record IsWithinLimits (p : Program) : Type 0 where
   pub spans : All (λ s. IsSpanWithin (length p.rooms) s.span) p.stays
   pub rates : All (λ s. (1 ≤ s.rate) × (s.rate ≤ MOST_RATE)) p.stays
   pub forecasts : All (λ s. s.forecast ≤ MOST_FORECAST) p.stays
-
--- names that go once nobody cites them
-abbrev pub most_nights : ℕ
-most_nights = MOST_NIGHTS
-
-abbrev pub most_stays : ℕ
-most_stays = MOST_STAYS
-
-abbrev pub most_rooms : ℕ
-most_rooms = MOST_UNITS
-
-abbrev pub most_rate : ℕ
-most_rate = MOST_RATE
-
-abbrev pub most_forecast : ℕ
-most_forecast = MOST_FORECAST

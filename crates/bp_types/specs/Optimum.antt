@@ -45,7 +45,3 @@ pub record AreSuffixSums (u : ℕ → ℕ) (prices : List ℕ) : Type 0 where
 pub record AreLeastPrices (p : Program) (prices : List ℕ) : Type 0 where
   pub optimal : AreOptimalPrices p prices
   pub least : (others : List ℕ) → AreOptimalPrices p others → (n : ℕ) → price_from prices n ≤ price_from others n
-
--- a name that goes once nobody cites it
-abbrev pub greatest_price : ℕ
-greatest_price = MOST_PRICE

@@ -205,7 +205,7 @@ use Rattle.house.proofs.tables_of.Goals as goal
 pub read_bookings-requires : goal.read_bookings-requires
 read_bookings-requires c =
     let (list, nights) = stays_file-tells c.args.hotel.now _ c.in_ok-stays.stays c.in_ok-stays.ensures.read in
-    (forecast_file-tells c.in_ok-stays.stays c.read_forecast.new.stays _ list c.in_ok-read_forecast.ensures.read).1 ∙ nights
+    record { of_hotel = (forecast_file-tells c.in_ok-stays.stays c.read_forecast.new.stays _ list c.in_ok-read_forecast.ensures.read).1 ∙ nights }
 ANTT
 
 if ! (cd "$crate" && rt run -- data/hotel.toml data/stays.csv data/forecast.csv data/bookings.csv) > "$work/log" 2>&1; then

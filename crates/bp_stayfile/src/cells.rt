@@ -1,3 +1,4 @@
+//! The tests of a record's fields. The line of a refusal is the record's.
 ghost use Rattle.std.specs.Prelude.{◌≡◌, ◌^◌, ◌<◌, ◌≤◌};
 ghost use Rattle.bp_stayfile.specs.Cells.{code_in, number_in, date_in, span_in, limits_in};
 
@@ -7,7 +8,8 @@ use bp_hotelfile::DateError;
 use bp_types::Span;
 use bp_types::limits::{MOST_RATE, MOST_STAYS};
 
-pub(crate) fn code_in(line: u64, text: &str) -> Result<(), TableRefusal>
+/// A code, whether or not a stay has it.
+pub fn code_in(line: u64, text: &str) -> Result<(), TableRefusal>
     ensures { result ≡ code_in line text.now }
 {
     if is_code(text) {
@@ -17,13 +19,15 @@ pub(crate) fn code_in(line: u64, text: &str) -> Result<(), TableRefusal>
     }
 }
 
-pub(crate) fn number_in(line: u64, text: &str) -> Result<u64, TableRefusal>
+/// A number.
+pub fn number_in(line: u64, text: &str) -> Result<u64, TableRefusal>
     ensures { result ≡ number_in line text.now }
 {
     number_of(text).ok_or(TableRefusal::Number { line })
 }
 
-pub(crate) fn date_in(line: u64, night: Result<u32, DateError>) -> Result<(), TableRefusal>
+/// A date, whether or not it is one of the hotel's nights.
+pub fn date_in(line: u64, night: Result<u32, DateError>) -> Result<(), TableRefusal>
     ensures { result ≡ date_in line night }
 {
     match night {
@@ -33,7 +37,7 @@ pub(crate) fn date_in(line: u64, night: Result<u32, DateError>) -> Result<(), Ta
 }
 
 /// The nights from an arrival, all of them within the hotel's.
-pub(crate) fn span_in(
+pub fn span_in(
     line: u64,
     total: u32,
     arrival: Result<u32, DateError>,

@@ -5,7 +5,7 @@
 #![tactic(auto)]
 
 mod bookings;
-mod cells;
+pub mod cells;
 mod codes;
 mod column;
 mod counts;

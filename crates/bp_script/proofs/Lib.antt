@@ -1,0 +1,4 @@
+-- What a request tells that was read of a row: its session and its command are within their limits.
+pub mod RequestLemmas
+-- What holds of each request that was read holds of the commands of every session.
+pub mod ScriptLemmas

@@ -1,0 +1,4 @@
+pub mod Newest
+pub mod Passes
+pub mod Calling
+pub mod Typed

@@ -1,0 +1,21 @@
+//! The words of a command line, and the task that a plain line of them asks for.
+#![tactic(auto)]
+
+mod desk;
+mod desk_words;
+mod error;
+mod form;
+pub mod law;
+mod line;
+mod name;
+mod number;
+mod plain;
+mod task;
+#[cfg(test)]
+mod tests;
+
+pub use error::WordsError;
+pub use line::parse;
+pub use name::Name;
+pub use number::{MOST_WORKERS, WORKERS};
+pub use task::Task;

@@ -1,7 +1,8 @@
 -- What plain words ask for.
 use Rattle.std.specs.Prelude.{◌≡◌, ℕ, ◌≤◌, List, [], ◌∷◌, Option, Some, None, codes}
 use Rattle.bp_types.specs.declared.limits.TheConstants.{MOST_NIGHTS, MOST_ROOMS, MOST_STAYS, MOST_GROUP_ROOMS}
-use Rattle.bp_cli.specs.declared.number.TheConstants.{MOST_WORKERS, WORKERS}
+use Rattle.bp_types.specs.declared.limits.TheConstants.{MOST_WORKERS}
+use Rattle.bp_cli.specs.declared.number.TheConstants.{WORKERS}
 use Rattle.bp_cli.specs.Words.{Word, IsFileName, IsNumber}
 
 -- the names of a desk's files: those of its house, and last its script, or a journal

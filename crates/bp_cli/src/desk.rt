@@ -8,8 +8,9 @@ ghost use Rattle.bp_cli.specs.Clap.{DeskLine, words_of, Gives};
 
 use crate::desk_words::{DeskWords, desk_words};
 use crate::name::is_file_name;
-use crate::number::{MOST_WORKERS, WORKERS, number_of, number_within};
+use crate::number::{WORKERS, number_of, number_within};
 use crate::{Name, Task, WordsError};
+use bp_types::limits::MOST_WORKERS;
 use std::alloc::Global;
 
 /// Whether each of the five is a name that a file may have.

@@ -17,5 +17,5 @@ mod tests;
 pub use error::WordsError;
 pub use line::parse;
 pub use name::Name;
-pub use number::{MOST_WORKERS, WORKERS};
+pub use number::WORKERS;
 pub use task::Task;

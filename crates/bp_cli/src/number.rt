@@ -1,9 +1,6 @@
 ghost use Rattle.std.specs.Prelude.{◌≤◌, ℕ, MatchOption};
 ghost use Rattle.bp_cli.specs.Words.{IsNumber};
 
-/// Workers of a desk, at most.
-pub const MOST_WORKERS: u32 = 16;
-
 /// Workers of a desk where the line does not say how many.
 pub const WORKERS: u32 = 2;
 

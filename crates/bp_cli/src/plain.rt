@@ -4,9 +4,9 @@ ghost use Rattle.bp_cli.specs.Words.{texts};
 ghost use Rattle.bp_cli.specs.Asked.{IsReadOf};
 
 use crate::name::is_file_name;
-use crate::number::{MOST_WORKERS, WORKERS, number_of, number_within};
+use crate::number::{WORKERS, number_of, number_within};
 use crate::{Name, Task};
-use bp_types::limits::{MOST_GROUP_ROOMS, MOST_NIGHTS, MOST_ROOMS, MOST_STAYS};
+use bp_types::limits::{MOST_GROUP_ROOMS, MOST_NIGHTS, MOST_ROOMS, MOST_STAYS, MOST_WORKERS};
 
 fn check_of<'a>(problem: &'a str, certificate: &'a str) -> Option<Task<'a>>
     ensures { IsReadOf (codes "check" ∷ problem.now ∷ certificate.now ∷ []) result }

@@ -10,7 +10,7 @@ use Rattle.bp_core.specs.declared.call.Answer.TheVariants.{Logged as LoggedReply
 use Rattle.bp_core.specs.declared.call.Call.TheVariants.{Do}
 use Rattle.bp_types.specs.declared.change.Change.{Change}
 use Rattle.bp_core.specs.declared.line.Line.{Line}
-use Rattle.bp_core.specs.Log.{Logged}
+use Rattle.bp_core.specs.Log.{LogView}
 use Rattle.bp_core.specs.Lines.{History}
 use Rattle.bp_core.specs.Answer.{IsCommandReply}
 use Rattle.bp_core.specs.Acting.{Diary, IsLogged, IsRefused, IsDone, command_refusal, plain_line}
@@ -29,7 +29,7 @@ command_is_logged h H G now caller command quoted reply answer view is replies a
     subst P view here
 
 -- a log with one line more, and what it changes
-abbrev pub pushed : Logged → Line → List Change → Logged
+abbrev pub pushed : LogView → Line → List Change → LogView
 pushed log x d = record { lines = log.lines ++ x ∷ []; deltas = log.deltas ++ d ∷ []; line_room = log.line_room; board_room = log.board_room }
 
 -- a command that is not refused is logged

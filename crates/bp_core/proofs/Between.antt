@@ -10,7 +10,7 @@ use Rattle.bp_core.specs.Changes.{deltas_at, deltas_between}
 use Rattle.bp_core.specs.Instance.{instance_of, instance_at}
 use Rattle.bp_core.specs.Laws.{DeltasLead}
 use Rattle.bp_core.specs.Legal.{IsLegal}
-use Rattle.bp_core.proofs.KeptBetween.{flat_map-more}
+use Rattle.bp_core.proofs.StoredBetween.{flat_map-more}
 use Rattle.bp_core.proofs.LineLeads.{Stands, line_leads}
 use Rattle.bp_core.proofs.Prefixes.{prefixes_are_legal, take-more}
 use Rattle.bp_core.proofs.Sound.{sound_at, sound_more}

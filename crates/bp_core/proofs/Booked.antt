@@ -20,9 +20,9 @@ use Rattle.bp_core.specs.Changes.{changes_after, deltas_of}
 use Rattle.bp_core.specs.Instance.{house_stay, span_of, sold_at, forecast_of, reforecast_count, is_reforecast_of, is_book_of}
 use Rattle.bp_core.specs.Answer.{book_reply}
 use Rattle.bp_core.specs.Legal.{IsLegal, IsLegalLine, is_in_range}
-use Rattle.bp_core.specs.Log.{Logged}
-use Rattle.bp_core.specs.Roll.{Kept, bookings_of, with_bookings}
-use Rattle.bp_core.specs.Keeping.{IsKept, numbers, inventory_of, fate_by, AreBookingsOf}
+use Rattle.bp_core.specs.Log.{LogView}
+use Rattle.bp_core.specs.Roll.{RollView, bookings_of, with_bookings}
+use Rattle.bp_core.specs.Keeping.{AreInStep, numbers, inventory_of, fate_by, AreBookingsOf}
 use Rattle.bp_core.proofs.Counts.{and_false, own_number, other_number}
 use Rattle.bp_core.proofs.Cases.{cond_same}
 use Rattle.bp_core.proofs.Pushes.{last_value-push, count-push, since-push_miss}
@@ -31,7 +31,7 @@ use Rattle.bp_core.proofs.Setting.{not_full_allowed}
 use Rattle.bp_core.proofs.Effects.{count_set, numbers_set, opened, standing_kept, forecast_kept, bookings_kept, stock_kept}
 use Rattle.bp_core.proofs.Stocking.{sold_moves, rooms_stay}
 use Rattle.bp_core.proofs.Bookings.{bookings_more}
-use Rattle.bp_core.proofs.KeptMore.{Follows}
+use Rattle.bp_core.proofs.InStepMore.{Follows}
 use Rattle.bp_core.proofs.Quiet.{quiet_rates}
 
 pub book_is_legal : (h : Inn) (H : History) (caller stay : ℕ) (reply : Reply) → IsLegal h H → IsTrue (may_log H caller (Do (Book stay))) → IsTrue (is_in_range h (Do (Book stay))) → ((commands H ≡ h.limits.entries) → ⊥) →
@@ -87,7 +87,7 @@ stock_refused h H caller stay reply refused =
     stock_kept h H x (λ n. cond_same {X = Option ℕ} (is_done reply) None) (λ k nth. and_false (caller == k)) (λ n. rw refused refl) (λ n. cond_same {X = ℕ} (is_group_accepted reply) 0)
 
 -- the roll with a booking call more
-pub roll_booked : (h : Inn) (H : History) (roll : Kept) (caller stay : ℕ) (reply : Reply) (b : Booking) → IsLegal h H → length roll.bookings ≡ CALLERS → caller < CALLERS → ((k : ℕ) → k < CALLERS → AreBookingsOf H k (bookings_of roll k)) → b.stay ≡ stay → b.fate ≡ fate_by (is_accepted reply) false →
+pub roll_booked : (h : Inn) (H : History) (roll : RollView) (caller stay : ℕ) (reply : Reply) (b : Booking) → IsLegal h H → length roll.bookings ≡ CALLERS → caller < CALLERS → ((k : ℕ) → k < CALLERS → AreBookingsOf H k (bookings_of roll k)) → b.stay ≡ stay → b.fate ≡ fate_by (is_accepted reply) false →
     (k : ℕ) → k < CALLERS → AreBookingsOf (H ++ plain_line caller (Do (Book stay)) reply ∷ []) k (bookings_of (with_bookings roll caller (bookings_of roll caller ++ b ∷ [])) k)
 roll_booked h H roll caller stay reply b legal each small were stay_is fate_is k within =
     let x : Line = plain_line caller (Do (Book stay)) reply in
@@ -103,7 +103,7 @@ roll_booked h H roll caller stay reply b legal each small were stay_is fate_is k
           subst P (sym same) (bookings_kept H x k (bookings_of roll k) (ap (λ t. t && true) (other_number caller k other)) (λ nth. and_false (caller == k)) (were k within))
     ]
 
-pub book_follows : (h : Inn) (log : Logged) (roll : Kept) (inventory inventory' : Inventory) (forecasts rates : List ℕ) (caller stay value : ℕ) (reply : Reply) (b : Booking) → IsKept h log roll inventory forecasts rates → caller < CALLERS → stay < length h.stays →
+pub book_follows : (h : Inn) (log : LogView) (roll : RollView) (inventory inventory' : Inventory) (forecasts rates : List ℕ) (caller stay value : ℕ) (reply : Reply) (b : Booking) → AreInStep h log roll inventory forecasts rates → caller < CALLERS → stay < length h.stays →
     value ≡ forecast_of h log.lines stay - h.limits.unit → b.stay ≡ stay → b.fate ≡ fate_by (is_accepted reply) false → inventory' ≡ inventory_of h (log.lines ++ plain_line caller (Do (Book stay)) reply ∷ []) →
     Follows h log.lines roll (with_bookings roll caller (bookings_of roll caller ++ b ∷ [])) inventory' (set forecasts stay value) rates (plain_line caller (Do (Book stay)) reply)
 book_follows h log roll inventory inventory' forecasts rates caller stay value reply b kept small within value_is stay_is fate_is stock = record {

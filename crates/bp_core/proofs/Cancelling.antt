@@ -28,9 +28,9 @@ use Rattle.bp_core.specs.Answer.{cancel_reply, given_up_reply}
 use Rattle.bp_core.specs.Changes.{span_booked}
 use Rattle.bp_core.specs.Legal.{IsLegal, IsLegalLine, is_in_range}
 use Rattle.bp_core.specs.Held.{IsHeld}
-use Rattle.bp_core.specs.Log.{Logged}
-use Rattle.bp_core.specs.Roll.{Kept, bookings_of, with_bookings}
-use Rattle.bp_core.specs.Keeping.{IsKept, inventory_of, AreBookingsOf, IsBookingOf, fate_by}
+use Rattle.bp_core.specs.Log.{LogView}
+use Rattle.bp_core.specs.Roll.{RollView, bookings_of, with_bookings}
+use Rattle.bp_core.specs.Keeping.{AreInStep, inventory_of, AreBookingsOf, IsBookingOf, fate_by}
 use Rattle.bp_core.proofs.Counts.{and_false, did_true, own_number, other_number}
 use Rattle.bp_core.proofs.Cases.{cases_Option}
 use Rattle.bp_core.proofs.Prefixes.{take_take, take-more}
@@ -39,7 +39,7 @@ use Rattle.bp_core.proofs.Sold.{held_at, holds_room-old, held_at-push_sum}
 use Rattle.bp_core.proofs.Setting.{not_full_allowed}
 use Rattle.bp_core.proofs.Effects.{numbers_same, opened, standing_kept, forecast_kept, bookings_kept, booking_kept, nth_book_kept}
 use Rattle.bp_core.proofs.Stocking.{sold_moves, rooms_stay}
-use Rattle.bp_core.proofs.KeptMore.{Follows}
+use Rattle.bp_core.proofs.InStepMore.{Follows}
 use Rattle.bp_core.proofs.Quiet.{IsQuiet, follows_quiet, quiet_forecasts, quiet_rates}
 
 pub cancel_is_legal : (h : Inn) (H : History) (caller nth : ℕ) (reply : Reply) → IsLegal h H → IsTrue (may_log H caller (Do (Cancel nth))) → IsTrue (is_in_range h (Do (Cancel nth))) → ((commands H ≡ h.limits.entries) → ⊥) →
@@ -61,14 +61,14 @@ refused_is_quiet caller nth reply refused = record { no_book = refl; no_resize =
 again_is_quiet : (caller nth : ℕ) → IsQuiet (plain_line caller (Do (Cancel nth)) AlreadyCancelled)
 again_is_quiet caller nth = record { no_book = refl; no_resize = λ n. refl; no_cancel = λ k m. ap (λ b. (caller == k) && b) (and_false (nth == m)) ∙ and_false (caller == k); no_group = λ n. refl }
 
-pub not_booked_follows : (h : Inn) (log : Logged) (roll : Kept) (inventory : Inventory) (forecasts rates : List ℕ) (caller nth : ℕ) → IsKept h log roll inventory forecasts rates →
+pub not_booked_follows : (h : Inn) (log : LogView) (roll : RollView) (inventory : Inventory) (forecasts rates : List ℕ) (caller nth : ℕ) → AreInStep h log roll inventory forecasts rates →
     Follows h log.lines roll roll inventory forecasts rates (plain_line caller (Do (Cancel nth)) NotBooked)
 not_booked_follows h log roll inventory forecasts rates caller nth kept =
     let x : Line = plain_line caller (Do (Cancel nth)) NotBooked in
     let quiet = refused_is_quiet caller nth NotBooked refl in
     follows_quiet h log roll inventory forecasts forecasts rates rates x kept quiet refl refl (kept.forecasts_are ∙ quiet_forecasts h log.lines x quiet (λ j. refl)) (kept.rates_are ∙ quiet_rates h log.lines x (λ j. refl))
 
-pub again_follows : (h : Inn) (log : Logged) (roll : Kept) (inventory : Inventory) (forecasts rates : List ℕ) (caller nth : ℕ) → IsKept h log roll inventory forecasts rates →
+pub again_follows : (h : Inn) (log : LogView) (roll : RollView) (inventory : Inventory) (forecasts rates : List ℕ) (caller nth : ℕ) → AreInStep h log roll inventory forecasts rates →
     Follows h log.lines roll roll inventory forecasts rates (plain_line caller (Do (Cancel nth)) AlreadyCancelled)
 again_follows h log roll inventory forecasts rates caller nth kept =
     let x : Line = plain_line caller (Do (Cancel nth)) AlreadyCancelled in
@@ -263,7 +263,7 @@ bookings_given_up H caller nth stay bs b from_one were held stay_is fate_is =
           ];
     }
 
-pub give_up_follows : (h : Inn) (log : Logged) (roll : Kept) (inventory inventory' : Inventory) (forecasts rates : List ℕ) (caller nth stay : ℕ) (b : Booking) → IsKept h log roll inventory forecasts rates → caller < CALLERS → 1 ≤ nth → IsHeld log.lines caller nth stay → b.stay ≡ stay → b.fate ≡ GivenUp → inventory' ≡ released inventory (span_of h stay) 1 →
+pub give_up_follows : (h : Inn) (log : LogView) (roll : RollView) (inventory inventory' : Inventory) (forecasts rates : List ℕ) (caller nth stay : ℕ) (b : Booking) → AreInStep h log roll inventory forecasts rates → caller < CALLERS → 1 ≤ nth → IsHeld log.lines caller nth stay → b.stay ≡ stay → b.fate ≡ GivenUp → inventory' ≡ released inventory (span_of h stay) 1 →
     Follows h log.lines roll (with_bookings roll caller (set (bookings_of roll caller) (nth - 1) b)) inventory' forecasts rates (plain_line caller (Do (Cancel nth)) Cancelled)
 give_up_follows h log roll inventory inventory' forecasts rates caller nth stay b kept small from_one held stay_is fate_is stock =
     let H : History = log.lines in

@@ -13,12 +13,12 @@ use Rattle.bp_core.specs.Acting.{plain_line}
 use Rattle.bp_core.specs.Lines.{History, is_by}
 use Rattle.bp_core.specs.Callers.{may_log, is_leave, has_enrolled, has_left}
 use Rattle.bp_core.specs.Legal.{IsLegal, IsLegalLine}
-use Rattle.bp_core.specs.Log.{Logged}
-use Rattle.bp_core.specs.Roll.{Kept, standing_of, with_standing}
-use Rattle.bp_core.specs.Keeping.{IsKept, standing_by}
+use Rattle.bp_core.specs.Log.{LogView}
+use Rattle.bp_core.specs.Roll.{RollView, standing_of, with_standing}
+use Rattle.bp_core.specs.Keeping.{AreInStep, standing_by}
 use Rattle.bp_core.proofs.Counts.{counted_at, and_false, did_old, did_true, own_number, other_number, none_of_some, may_leave, enrolled_by, left_by, enrolled_stays, left_stays}
 use Rattle.bp_core.proofs.Effects.{opened}
-use Rattle.bp_core.proofs.KeptMore.{Follows}
+use Rattle.bp_core.proofs.InStepMore.{Follows}
 use Rattle.bp_core.proofs.Quiet.{IsQuiet, quiet_stock, quiet_bookings, quiet_forecasts, quiet_rates}
 
 pub enrol_is_legal : (h : Inn) (H : History) (caller : ℕ) → IsLegal h H → IsTrue (may_log H caller Enrol) → IsLegalLine h H (plain_line caller Enrol Done)
@@ -52,13 +52,13 @@ pub leave_is_quiet : (caller : ℕ) → IsQuiet (plain_line caller Leave Done)
 leave_is_quiet caller = record { no_book = refl; no_resize = λ n. refl; no_cancel = λ k nth. and_false (caller == k); no_group = λ n. refl }
 
 -- the standing of each caller, where one of them gets another
-standing_set : (roll : Kept) (caller k : ℕ) (standing : Standing) → caller < length roll.standings → ((k ≡ caller) → standing_of (with_standing roll caller standing) k ≡ standing) × ((k ≡ caller → ⊥) → standing_of (with_standing roll caller standing) k ≡ standing_of roll k)
+standing_set : (roll : RollView) (caller k : ℕ) (standing : Standing) → caller < length roll.standings → ((k ≡ caller) → standing_of (with_standing roll caller standing) k ≡ standing) × ((k ≡ caller → ⊥) → standing_of (with_standing roll caller standing) k ≡ standing_of roll k)
 standing_set roll caller k standing within = (
   λ here. ap (λ m. get_or (set roll.standings caller standing) m New) here ∙ get_or-set_same roll.standings caller standing New within,
   λ other. get_or-set_other roll.standings caller k standing New other,
 )
 
-pub enrol_follows : (h : Inn) (log : Logged) (roll : Kept) (inventory : Inventory) (forecasts rates : List ℕ) (caller : ℕ) → IsKept h log roll inventory forecasts rates → caller < CALLERS → IsTrue (may_log log.lines caller Enrol) →
+pub enrol_follows : (h : Inn) (log : LogView) (roll : RollView) (inventory : Inventory) (forecasts rates : List ℕ) (caller : ℕ) → AreInStep h log roll inventory forecasts rates → caller < CALLERS → IsTrue (may_log log.lines caller Enrol) →
     Follows h log.lines roll (with_standing roll caller Present) inventory forecasts rates (plain_line caller Enrol Done)
 enrol_follows h log roll inventory forecasts rates caller kept small may =
     let x : Line = plain_line caller Enrol Done in
@@ -84,7 +84,7 @@ enrol_follows h log roll inventory forecasts rates caller kept small may =
       rates_are = kept.rates_are ∙ quiet_rates h log.lines x (λ j. refl);
     }
 
-pub leave_follows : (h : Inn) (log : Logged) (roll : Kept) (inventory : Inventory) (forecasts rates : List ℕ) (caller : ℕ) → IsKept h log roll inventory forecasts rates → caller < CALLERS → IsTrue (may_log log.lines caller Leave) →
+pub leave_follows : (h : Inn) (log : LogView) (roll : RollView) (inventory : Inventory) (forecasts rates : List ℕ) (caller : ℕ) → AreInStep h log roll inventory forecasts rates → caller < CALLERS → IsTrue (may_log log.lines caller Leave) →
     Follows h log.lines roll (with_standing roll caller Gone) inventory forecasts rates (plain_line caller Leave Done)
 leave_follows h log roll inventory forecasts rates caller kept small may =
     let x : Line = plain_line caller Leave Done in

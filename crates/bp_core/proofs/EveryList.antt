@@ -23,7 +23,7 @@ use Rattle.bp_core.specs.Legal.{IsLegal, IsLegalLine, is_fresh}
 use Rattle.bp_core.specs.Lines.{History, commands, vectors, last_position}
 use Rattle.bp_core.proofs.Effects.{opened}
 use Rattle.bp_core.proofs.Enrolling.{enrol_is_legal, leave_is_legal}
-use Rattle.bp_core.proofs.KeptMore.{legal_more}
+use Rattle.bp_core.proofs.InStepMore.{legal_more}
 use Rattle.bp_core.proofs.Openings.{opening_history_is_legal}
 use Rattle.bp_core.proofs.Publishing.{publish_is_legal}
 use Rattle.bp_core.proofs.Setting.{not_full_allowed}

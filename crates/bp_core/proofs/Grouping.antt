@@ -18,18 +18,18 @@ use Rattle.bp_core.specs.Acting.{plain_line, command_refusal}
 use Rattle.bp_core.specs.Lines.{History, commands}
 use Rattle.bp_core.specs.Callers.{may_log}
 use Rattle.bp_core.specs.Changes.{changes_after}
-use Rattle.bp_core.specs.Instance.{sold_at, instance_of, instance_at, left_at}
+use Rattle.bp_core.specs.Instance.{sold_at, instance_of, instance_at, rooms_left_at}
 use Rattle.bp_core.specs.Answer.{IsGroupReply, IsPricedReply, group_reply}
 use Rattle.bp_core.specs.Legal.{IsLegal, IsLegalLine, is_in_range}
-use Rattle.bp_core.specs.Log.{Logged}
-use Rattle.bp_core.specs.Roll.{Kept}
-use Rattle.bp_core.specs.Keeping.{IsKept, inventory_of}
+use Rattle.bp_core.specs.Log.{LogView}
+use Rattle.bp_core.specs.Roll.{RollView}
+use Rattle.bp_core.specs.Keeping.{AreInStep, inventory_of}
 use Rattle.bp_core.proofs.Counts.{and_false}
 use Rattle.bp_core.proofs.Sold.{sold_at-push}
 use Rattle.bp_core.proofs.Setting.{not_full_allowed}
 use Rattle.bp_core.proofs.Effects.{numbers_same, opened, standing_kept, forecast_kept, bookings_kept}
 use Rattle.bp_core.proofs.Stocking.{sold_moves, rooms_stay}
-use Rattle.bp_core.proofs.KeptMore.{Follows}
+use Rattle.bp_core.proofs.InStepMore.{Follows}
 use Rattle.bp_core.proofs.Quiet.{IsQuiet, follows_quiet, quiet_forecasts, quiet_rates}
 use Rattle.bp_core.proofs.Unchanged.{instance_unchanged}
 
@@ -46,13 +46,13 @@ group_is_legal h H caller rooms amount span reply legal may range not_full is = 
   reply = is;
 }
 
-pub no_room_reply : (h : Inn) (H : History) (span : Span) (rooms amount night : ℕ) → first_short (left_at h H) span rooms ≡ Some night → IsGroupReply h H span rooms amount (GroupNoRoom night)
+pub no_room_reply : (h : Inn) (H : History) (span : Span) (rooms amount night : ℕ) → first_short (rooms_left_at h H) span rooms ≡ Some night → IsGroupReply h H span rooms amount (GroupNoRoom night)
 no_room_reply h H span rooms amount night first =
     let P : Option ℕ → Type 0 = λ o. MatchOption o (IsPricedReply h H span rooms amount (GroupNoRoom night)) (λ n. GroupNoRoom night ≡ GroupNoRoom n) in
     subst P (sym first) refl
 
 -- a group for which there are rooms, at its displacement
-priced_reply : (h : Inn) (H : History) (span : Span) (rooms amount displacement : ℕ) (reply : Reply) → first_short (left_at h H) span rooms ≡ None → IsDisplacement (instance_of h H) span (h.limits.unit * rooms) displacement → reply ≡ group_reply (h.limits.unit * amount) displacement →
+priced_reply : (h : Inn) (H : History) (span : Span) (rooms amount displacement : ℕ) (reply : Reply) → first_short (rooms_left_at h H) span rooms ≡ None → IsDisplacement (instance_of h H) span (h.limits.unit * rooms) displacement → reply ≡ group_reply (h.limits.unit * amount) displacement →
     IsGroupReply h H span rooms amount reply
 priced_reply h H span rooms amount displacement reply first displaces is =
     let P : Option ℕ → Type 0 = λ o. MatchOption o (IsPricedReply h H span rooms amount reply) (λ n. reply ≡ GroupNoRoom n) in
@@ -64,13 +64,13 @@ quote_holds h H span units displacement position within none displaces =
     let P : Program → Type 0 = λ p. IsDisplacement p span units displacement in
     subst P (instance_unchanged h H position within none) displaces
 
-pub group_too_low : (h : Inn) (H : History) (span : Span) (rooms amount displacement position paid : ℕ) → first_short (left_at h H) span rooms ≡ None → position ≤ length H → changes_after H position ≡ 0 → IsDisplacement (instance_at h H position) span (h.limits.unit * rooms) displacement →
+pub group_too_low : (h : Inn) (H : History) (span : Span) (rooms amount displacement position paid : ℕ) → first_short (rooms_left_at h H) span rooms ≡ None → position ≤ length H → changes_after H position ≡ 0 → IsDisplacement (instance_at h H position) span (h.limits.unit * rooms) displacement →
     paid ≡ h.limits.unit * amount → paid < displacement → IsGroupReply h H span rooms amount (GroupTooLow displacement)
 group_too_low h H span rooms amount displacement position paid first within none displaces is below =
     let e : nat_lt (h.limits.unit * amount) displacement ≡ true = ap (λ n. nat_lt n displacement) (sym is) ∙ lt-ltb _ _ below in
     priced_reply h H span rooms amount displacement (GroupTooLow displacement) first (quote_holds h H span (h.limits.unit * rooms) displacement position within none displaces) (sym (cond-true _ _ _ e))
 
-pub group_paid : (h : Inn) (H : History) (span : Span) (rooms amount displacement position paid : ℕ) → first_short (left_at h H) span rooms ≡ None → position ≤ length H → changes_after H position ≡ 0 → IsDisplacement (instance_at h H position) span (h.limits.unit * rooms) displacement →
+pub group_paid : (h : Inn) (H : History) (span : Span) (rooms amount displacement position paid : ℕ) → first_short (rooms_left_at h H) span rooms ≡ None → position ≤ length H → changes_after H position ≡ 0 → IsDisplacement (instance_at h H position) span (h.limits.unit * rooms) displacement →
     paid ≡ h.limits.unit * amount → displacement ≤ paid → IsGroupReply h H span rooms amount (GroupAccepted displacement)
 group_paid h H span rooms amount displacement position paid first within none displaces is above =
     let e : nat_lt (h.limits.unit * amount) displacement ≡ false = ap (λ n. nat_lt n displacement) (sym is) ∙ le-ltb _ _ above in
@@ -83,14 +83,14 @@ no_room_is_quiet caller rooms amount night span = record { no_book = refl; no_re
 too_low_is_quiet : (caller rooms amount displacement : ℕ) (span : Span) → IsQuiet (plain_line caller (Do (Group span rooms amount)) (GroupTooLow displacement))
 too_low_is_quiet caller rooms amount displacement span = record { no_book = refl; no_resize = λ n. refl; no_cancel = λ k nth. and_false (caller == k); no_group = λ n. refl }
 
-pub no_room_follows : (h : Inn) (log : Logged) (roll : Kept) (inventory : Inventory) (forecasts rates : List ℕ) (caller rooms amount night : ℕ) (span : Span) → IsKept h log roll inventory forecasts rates →
+pub no_room_follows : (h : Inn) (log : LogView) (roll : RollView) (inventory : Inventory) (forecasts rates : List ℕ) (caller rooms amount night : ℕ) (span : Span) → AreInStep h log roll inventory forecasts rates →
     Follows h log.lines roll roll inventory forecasts rates (plain_line caller (Do (Group span rooms amount)) (GroupNoRoom night))
 no_room_follows h log roll inventory forecasts rates caller rooms amount night span kept =
     let x : Line = plain_line caller (Do (Group span rooms amount)) (GroupNoRoom night) in
     let quiet = no_room_is_quiet caller rooms amount night span in
     follows_quiet h log roll inventory forecasts forecasts rates rates x kept quiet refl refl (kept.forecasts_are ∙ quiet_forecasts h log.lines x quiet (λ j. refl)) (kept.rates_are ∙ quiet_rates h log.lines x (λ j. refl))
 
-pub too_low_follows : (h : Inn) (log : Logged) (roll : Kept) (inventory : Inventory) (forecasts rates : List ℕ) (caller rooms amount displacement : ℕ) (span : Span) → IsKept h log roll inventory forecasts rates →
+pub too_low_follows : (h : Inn) (log : LogView) (roll : RollView) (inventory : Inventory) (forecasts rates : List ℕ) (caller rooms amount displacement : ℕ) (span : Span) → AreInStep h log roll inventory forecasts rates →
     Follows h log.lines roll roll inventory forecasts rates (plain_line caller (Do (Group span rooms amount)) (GroupTooLow displacement))
 too_low_follows h log roll inventory forecasts rates caller rooms amount displacement span kept =
     let x : Line = plain_line caller (Do (Group span rooms amount)) (GroupTooLow displacement) in
@@ -108,7 +108,7 @@ stock_grouped h H caller rooms amount displacement span =
     more : (n : ℕ) → sold_at h H n + 0 + cond (covers span n) rooms 0 ≡ cond (covers span n) (sold_at h H n + rooms) (sold_at h H n)
     more n = elim (cases_Bool (covers span n)) [ inl t ↦ rw t (omega arith) | inr f ↦ rw f (omega arith) ]
 
-pub group_follows : (h : Inn) (log : Logged) (roll : Kept) (inventory inventory' : Inventory) (forecasts rates : List ℕ) (caller rooms amount displacement : ℕ) (span : Span) → IsKept h log roll inventory forecasts rates → inventory' ≡ taken inventory span rooms →
+pub group_follows : (h : Inn) (log : LogView) (roll : RollView) (inventory inventory' : Inventory) (forecasts rates : List ℕ) (caller rooms amount displacement : ℕ) (span : Span) → AreInStep h log roll inventory forecasts rates → inventory' ≡ taken inventory span rooms →
     Follows h log.lines roll roll inventory' forecasts rates (plain_line caller (Do (Group span rooms amount)) (GroupAccepted displacement))
 group_follows h log roll inventory inventory' forecasts rates caller rooms amount displacement span kept is =
     let x : Line = plain_line caller (Do (Group span rooms amount)) (GroupAccepted displacement) in
@@ -124,14 +124,14 @@ group_follows h log roll inventory inventory' forecasts rates caller rooms amoun
     }
 
 -- whether a group is refused
-pub refusal_none : (h : Inn) (H : History) (span : Span) (rooms amount night : ℕ) (quoted : Option Quoted) → first_short (left_at h H) span rooms ≡ Some night → command_refusal h H (Group span rooms amount) quoted ≡ None
+pub refusal_none : (h : Inn) (H : History) (span : Span) (rooms amount night : ℕ) (quoted : Option Quoted) → first_short (rooms_left_at h H) span rooms ≡ Some night → command_refusal h H (Group span rooms amount) quoted ≡ None
 refusal_none h H span rooms amount night quoted first = rw first refl
 
-pub refusal_unquoted : (h : Inn) (H : History) (span : Span) (rooms amount : ℕ) (quoted : Option Quoted) → first_short (left_at h H) span rooms ≡ None → quoted ≡ None → command_refusal h H (Group span rooms amount) quoted ≡ Some Unquoted
+pub refusal_unquoted : (h : Inn) (H : History) (span : Span) (rooms amount : ℕ) (quoted : Option Quoted) → first_short (rooms_left_at h H) span rooms ≡ None → quoted ≡ None → command_refusal h H (Group span rooms amount) quoted ≡ Some Unquoted
 refusal_unquoted h H span rooms amount quoted first none = rw (first, none) refl
 
-pub refusal_stale : (h : Inn) (H : History) (span : Span) (rooms amount : ℕ) (quoted : Option Quoted) (q : Quoted) → first_short (left_at h H) span rooms ≡ None → quoted ≡ Some q → 1 ≤ changes_after H q.position → command_refusal h H (Group span rooms amount) quoted ≡ Some (Stale (changes_after H q.position))
+pub refusal_stale : (h : Inn) (H : History) (span : Span) (rooms amount : ℕ) (quoted : Option Quoted) (q : Quoted) → first_short (rooms_left_at h H) span rooms ≡ None → quoted ≡ Some q → 1 ≤ changes_after H q.position → command_refusal h H (Group span rooms amount) quoted ≡ Some (Stale (changes_after H q.position))
 refusal_stale h H span rooms amount quoted q first some stale = rw (first, some, le-leb _ _ stale) refl
 
-pub refusal_fresh : (h : Inn) (H : History) (span : Span) (rooms amount : ℕ) (quoted : Option Quoted) (q : Quoted) → first_short (left_at h H) span rooms ≡ None → quoted ≡ Some q → changes_after H q.position ≡ 0 → command_refusal h H (Group span rooms amount) quoted ≡ None
+pub refusal_fresh : (h : Inn) (H : History) (span : Span) (rooms amount : ℕ) (quoted : Option Quoted) (q : Quoted) → first_short (rooms_left_at h H) span rooms ≡ None → quoted ≡ Some q → changes_after H q.position ≡ 0 → command_refusal h H (Group span rooms amount) quoted ≡ None
 refusal_fresh h H span rooms amount quoted q first some fresh = rw (first, some, fresh) refl

@@ -14,7 +14,7 @@ use Rattle.bp_types.proofs.RoomLemmas.{length-rooms_moved, rooms_moved-at}
 use Rattle.bp_types.proofs.Spans.{covers_inside}
 use Rattle.bp_types.specs.declared.limits.TheConstants.{MOST_FORECAST, MOST_UNITS}
 use Rattle.bp_core.specs.Lines.{History}
-use Rattle.bp_core.specs.Instance.{span_of, left_at, units_left_at, rate_of, forecast_of, stay_now, instance_of}
+use Rattle.bp_core.specs.Instance.{span_of, rooms_left_at, units_left_at, rate_of, forecast_of, stay_now, instance_of}
 use Rattle.bp_core.proofs.Effects.{numbers_same}
 use Rattle.bp_core.proofs.Ranges.{IsRate}
 use Rattle.bp_core.proofs.Turns.{leads_one}
@@ -32,7 +32,7 @@ stay_is_now : (h : Inn) (H : History) (j : ℕ) → j < length h.stays → get_o
 stay_is_now h H j within = get_or-map-range_with_len (stay_now h H) 0 (length h.stays) j j no_stay within (omega arith)
 
 -- the same rooms left
-pub rooms_as_before : (h : Inn) (H G : History) → ((n : ℕ) → n < length h.rooms → left_at h G n ≡ left_at h H n) → (instance_of h H).rooms ≡ (instance_of h G).rooms
+pub rooms_as_before : (h : Inn) (H G : History) → ((n : ℕ) → n < length h.rooms → rooms_left_at h G n ≡ rooms_left_at h H n) → (instance_of h H).rooms ≡ (instance_of h G).rooms
 rooms_as_before h H G same = numbers_same (units_left_at h H) (units_left_at h G) (length h.rooms) (λ n g. ap (λ l. h.limits.unit * l) (sym (same n g)))
 
 same_stay : (h : Inn) (H G : History) (j : ℕ) → rate_of h H j ≡ rate_of h G j → forecast_of h H j ≡ forecast_of h G j → stay_now h H j ≡ stay_now h G j
@@ -91,8 +91,8 @@ units_times u left k false false = refl
 pub record MovesRooms (h : Inn) (H G : History) (span : Span) (up : Bool) (k : ℕ) : Type 0 where
   pub ordered : span.from < span.to
   pub within : span.to ≤ length h.rooms
-  pub moves : (n : ℕ) → n < length h.rooms → left_at h G n ≡ cond (covers span n) (moved (left_at h H n) up k) (left_at h H n)
-  pub enough : up ≡ false → (n : ℕ) → span.from ≤ n → n < span.to → k ≤ left_at h H n
+  pub moves : (n : ℕ) → n < length h.rooms → rooms_left_at h G n ≡ cond (covers span n) (moved (rooms_left_at h H n) up k) (rooms_left_at h H n)
+  pub enough : up ≡ false → (n : ℕ) → span.from ≤ n → n < span.to → k ≤ rooms_left_at h H n
   pub small : (n : ℕ) → n < length h.rooms → units_left_at h G n ≤ MOST_UNITS
 
 units_move : (h : Inn) (H G : History) (span : Span) (up : Bool) (k : ℕ) → MovesRooms h H G span up k → rooms_moved (instance_of h H).rooms span up (h.limits.unit * k) ≡ (instance_of h G).rooms
@@ -101,15 +101,15 @@ units_move h H G span up k is =
     let units : ℕ = h.limits.unit * k in
     let each = nights_now h H in
     fill_by_all (units_left_at h G) (rooms_moved rooms span up units) (length h.rooms) 0 (length-rooms_moved rooms span up units ∙ each) (λ n g.
-    rooms_moved-at rooms span up units n 0 (omega (arith, each)) ∙ ap (λ s. cond (covers span n) (moved s up units) s) (units_now h H n g) ∙ units_times h.limits.unit (left_at h H n) k up (covers span n) ∙ ap (λ l. h.limits.unit * l) (sym (is.moves n g)))
+    rooms_moved-at rooms span up units n 0 (omega (arith, each)) ∙ ap (λ s. cond (covers span n) (moved s up units) s) (units_now h H n g) ∙ units_times h.limits.unit (rooms_left_at h H n) k up (covers span n) ∙ ap (λ l. h.limits.unit * l) (sym (is.moves n g)))
 
 units_fit : (h : Inn) (H G : History) (span : Span) (up : Bool) (k : ℕ) → MovesRooms h H G span up k → Fits (instance_of h H) (Rooms span up (h.limits.unit * k))
 units_fit h H G span true k is = (
   (is.ordered, omega (arith, is.within, nights_now h H)),
   λ n above below.
       let g : n < length h.rooms = omega (arith, is.within) in
-      let more : left_at h G n ≡ left_at h H n + k = is.moves n g ∙ ap (λ b. cond b (left_at h H n + k) (left_at h H n)) (covers_inside span.from span.to n above below) in
-      let sum : units_left_at h G n ≡ units_left_at h H n + h.limits.unit * k = ap (λ l. h.limits.unit * l) more ∙ mul-add h.limits.unit (left_at h H n) k in
+      let more : rooms_left_at h G n ≡ rooms_left_at h H n + k = is.moves n g ∙ ap (λ b. cond b (rooms_left_at h H n + k) (rooms_left_at h H n)) (covers_inside span.from span.to n above below) in
+      let sum : units_left_at h G n ≡ units_left_at h H n + h.limits.unit * k = ap (λ l. h.limits.unit * l) more ∙ mul-add h.limits.unit (rooms_left_at h H n) k in
       omega (arith, sum, units_now h H n g, is.small n g),
 )
 units_fit h H G span false k is = (

@@ -5,9 +5,9 @@ use Rattle.std.proofs.Math.ListN.{get_or-append}
 use Rattle.bp_types.specs.House.{Inn}
 use Rattle.bp_core.specs.Lines.{History, no_line, line_at}
 use Rattle.bp_core.specs.Changes.{deltas_of, deltas_at, deltas_between}
-use Rattle.bp_core.specs.Staying.{IsPrefix, DeltasJoin, DeltasLast}
+use Rattle.bp_core.specs.Staying.{IsPrefix, DeltasAppend, DeltasLast}
 use Rattle.bp_core.proofs.Growing.{take-prefix}
-use Rattle.bp_core.proofs.KeptBetween.{flat_map-more}
+use Rattle.bp_core.proofs.StoredBetween.{flat_map-more}
 
 none_between : (h : Inn) (H : History) (a : ℕ) → deltas_between h H a a ≡ []
 none_between h H a = ap (λ k. flat_map (deltas_at h H) (range_with_len a k)) (let e : a - a ≡ 0 = omega arith in e)
@@ -26,8 +26,8 @@ join_on h H a b (suc k) le =
     ∙ sym (flat_map-more f a (b + k) (omega (arith, le)))
     ∙ ap (deltas_between h H a) (sym e)
 
-pub deltas_join : DeltasJoin
-deltas_join h H a b c le on =
+pub deltas_append : DeltasAppend
+deltas_append h H a b c le on =
     let e : b + (c - b) ≡ c = omega (arith, on) in
     subst (λ n. deltas_between h H a b ++ deltas_between h H b n ≡ deltas_between h H a n) e (join_on h H a b (c - b) le)
 

@@ -7,9 +7,9 @@ pub mod Prefixes
 pub mod Sound
 pub mod LogLemmas
 pub mod RollLemmas
-pub mod KeptBetween
+pub mod StoredBetween
 pub mod Counts
-pub mod KeptMore
+pub mod InStepMore
 pub mod Effects
 pub mod Quiet
 pub mod Enrolling

@@ -22,7 +22,7 @@ use Rattle.bp_core.specs.declared.line.Reply.TheVariants.{Cancelled, Done, Group
 use Rattle.bp_core.specs.declared.line.Line.{Line}
 use Rattle.bp_core.specs.Acting.{plain_line}
 use Rattle.bp_core.specs.Lines.{History, is_accepted, is_book_by, is_cancelled, is_done, is_group_accepted}
-use Rattle.bp_core.specs.Instance.{span_of, rooms_at, sold_at, left_at, forecast_of, instance_of}
+use Rattle.bp_core.specs.Instance.{span_of, rooms_at, sold_at, rooms_left_at, forecast_of, instance_of}
 use Rattle.bp_core.specs.Changes.{is_change, deltas_of}
 use Rattle.bp_core.specs.Legal.{IsLegal, IsLegalLine}
 use Rattle.bp_core.specs.Keeping.{inventory_of}
@@ -62,12 +62,12 @@ leads_by h H x changes is leads =
 silent_leads : (h : Inn) (H : History) (x : Line) → is_change x ≡ false → [] ≡ deltas_of h H x → LineLeads h H x
 silent_leads h H x silent none = leads_by h H x [] none (leads_none _ _ (instance_kept h H x silent))
 
-taken_moves : (h : Inn) (H G : History) (span : Span) (k : ℕ) → IsHouse h → IsSound h G → span.from < span.to → span.to ≤ length h.rooms → taken (inventory_of h H) span k ≡ inventory_of h G → first_short (left_at h H) span k ≡ None → MovesRooms h H G span false k
+taken_moves : (h : Inn) (H G : History) (span : Span) (k : ℕ) → IsHouse h → IsSound h G → span.from < span.to → span.to ≤ length h.rooms → taken (inventory_of h H) span k ≡ inventory_of h G → first_short (rooms_left_at h H) span k ≡ None → MovesRooms h H G span false k
 taken_moves h H G span k house after ordered within is none = record {
   ordered = ordered;
   within = within;
   moves = left_taken h H G span k is;
-  enough = λ down n above below. enough_on (left_at h H) k span n none (covers_inside span.from span.to n above below);
+  enough = λ down n above below. enough_on (rooms_left_at h H) k span n none (covers_inside span.from span.to n above below);
   small = λ n g. units_stay_small h G n house after g;
 }
 
@@ -157,7 +157,7 @@ resize_moves h H caller night new up k stands at is =
       moves = left_resized h H G night new up k within (stock_resized h H caller night new within) below above (moves up k (rooms_at h H night) at is) (λ down. small up k (rooms_at h H night) down is);
       enough = λ down n from to.
           let here : n ≡ night = omega arith in
-          let left : left_at h H n ≡ left_at h H night = ap (left_at h H) here in
+          let left : rooms_left_at h H n ≡ rooms_left_at h H night = ap (rooms_left_at h H) here in
           omega (arith, left, enough up k (rooms_at h H night) (sold_at h H night) down is above);
       small = λ n g. units_stay_small h G n stands.house stands.after g;
     }

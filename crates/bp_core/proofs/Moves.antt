@@ -11,7 +11,7 @@ use Rattle.bp_types.proofs.RoomLemmas.{rooms_moved-at}
 use Rattle.bp_types.proofs.Spans.{covers_inside, covers_before, covers_past}
 use Rattle.bp_ledger.specs.Inventory.{Inventory, taken, released, resized}
 use Rattle.bp_core.specs.Lines.{History}
-use Rattle.bp_core.specs.Instance.{rooms_at, sold_at, left_at}
+use Rattle.bp_core.specs.Instance.{rooms_at, sold_at, rooms_left_at}
 use Rattle.bp_core.specs.Keeping.{inventory_of}
 use Rattle.bp_core.proofs.Stocking.{rooms_of_stock, sold_of_stock}
 
@@ -29,14 +29,14 @@ sold_there h H span up k n g =
     rooms_moved-at sold span up k n 0 (omega (arith, each)) ∙ ap (λ s. cond (covers span n) (moved s up k) s) (sold_of_stock h H n g)
 
 -- the stock stays, and so does what is left
-pub left_stays : (h : Inn) (H G : History) → inventory_of h H ≡ inventory_of h G → (n : ℕ) → n < length h.rooms → left_at h G n ≡ left_at h H n
+pub left_stays : (h : Inn) (H G : History) → inventory_of h H ≡ inventory_of h G → (n : ℕ) → n < length h.rooms → rooms_left_at h G n ≡ rooms_left_at h H n
 left_stays h H G is n g =
     let rooms = rooms_read h H G (inventory_of h H) is n g ∙ rooms_of_stock h H n g in
     let sold = sold_read h H G (inventory_of h H) is n g ∙ sold_of_stock h H n g in
     ap (λ r. r - sold_at h G n) rooms ∙ ap (λ s. rooms_at h H n - s) sold
 
 -- rooms taken are left no more
-pub left_taken : (h : Inn) (H G : History) (span : Span) (k : ℕ) → taken (inventory_of h H) span k ≡ inventory_of h G → (n : ℕ) → n < length h.rooms → left_at h G n ≡ cond (covers span n) (left_at h H n - k) (left_at h H n)
+pub left_taken : (h : Inn) (H G : History) (span : Span) (k : ℕ) → taken (inventory_of h H) span k ≡ inventory_of h G → (n : ℕ) → n < length h.rooms → rooms_left_at h G n ≡ cond (covers span n) (rooms_left_at h H n - k) (rooms_left_at h H n)
 left_taken h H G span k is n g =
     let rooms = rooms_read h H G (taken (inventory_of h H) span k) is n g ∙ rooms_of_stock h H n g in
     let sold = sold_read h H G (taken (inventory_of h H) span k) is n g ∙ sold_there h H span true k n g in
@@ -48,7 +48,7 @@ left_taken h H G span k is n g =
 
 -- rooms given up are left again
 pub left_released : (h : Inn) (H G : History) (span : Span) → released (inventory_of h H) span 1 ≡ inventory_of h G → (n : ℕ) → n < length h.rooms → sold_at h H n ≤ rooms_at h H n → (covers span n ≡ true → 1 ≤ sold_at h H n) →
-    left_at h G n ≡ cond (covers span n) (left_at h H n + 1) (left_at h H n)
+    rooms_left_at h G n ≡ cond (covers span n) (rooms_left_at h H n + 1) (rooms_left_at h H n)
 left_released h H G span is n g below some =
     let rooms = rooms_read h H G (released (inventory_of h H) span 1) is n g ∙ rooms_of_stock h H n g in
     let sold = sold_read h H G (released (inventory_of h H) span 1) is n g ∙ sold_there h H span false 1 n g in
@@ -67,7 +67,7 @@ night_alone night n other =
 
 -- rooms of a night set, up or down
 pub left_resized : (h : Inn) (H G : History) (night new : ℕ) (up : Bool) (k : ℕ) → night < length h.rooms → resized (inventory_of h H) night new ≡ inventory_of h G → sold_at h H night ≤ rooms_at h H night → sold_at h H night ≤ new → new ≡ moved (rooms_at h H night) up k → (up ≡ false → k ≤ rooms_at h H night) →
-    (n : ℕ) → n < length h.rooms → left_at h G n ≡ cond (covers (night_span night) n) (moved (left_at h H n) up k) (left_at h H n)
+    (n : ℕ) → n < length h.rooms → rooms_left_at h G n ≡ cond (covers (night_span night) n) (moved (rooms_left_at h H n) up k) (rooms_left_at h H n)
 left_resized h H G night new up k within is below above moves small n g =
     let each : length (inventory_of h H).rooms ≡ length h.rooms = length-map-range_with_len (rooms_at h H) 0 (length h.rooms) in
     let v = resized (inventory_of h H) night new in
@@ -76,11 +76,11 @@ left_resized h H G night new up k within is below above moves small n g =
       | inl here ↦
           let rooms : rooms_at h G n ≡ new = rooms_read h H G v is n g ∙ ap (λ m. slice_index v.rooms m) here ∙ get_or-set_same (inventory_of h H).rooms night new 0 (omega (arith, each)) in
           let there : covers (night_span night) n ≡ true = ap (covers (night_span night)) here ∙ covers_inside night (night + 1) night (omega arith) (omega arith) in
-          let left : left_at h G n ≡ moved (left_at h H n) up k = ap (λ r. r - sold_at h G n) (rooms ∙ moves) ∙ ap (λ s. moved (rooms_at h H night) up k - s) sold ∙ ap (λ m. moved (rooms_at h H m) up k - sold_at h H n) (sym here) ∙ set_to up (rooms_at h H n) (sold_at h H n) (omega (arith, below, ap (sold_at h H) here, ap (rooms_at h H) here)) (λ down. omega (arith, small down, ap (rooms_at h H) here)) in
+          let left : rooms_left_at h G n ≡ moved (rooms_left_at h H n) up k = ap (λ r. r - sold_at h G n) (rooms ∙ moves) ∙ ap (λ s. moved (rooms_at h H night) up k - s) sold ∙ ap (λ m. moved (rooms_at h H m) up k - sold_at h H n) (sym here) ∙ set_to up (rooms_at h H n) (sold_at h H n) (omega (arith, below, ap (sold_at h H) here, ap (rooms_at h H) here)) (λ down. omega (arith, small down, ap (rooms_at h H) here)) in
           left ∙ sym (cond-true _ _ _ there)
       | inr other ↦
           let rooms : rooms_at h G n ≡ rooms_at h H n = rooms_read h H G v is n g ∙ get_or-set_other (inventory_of h H).rooms night n new 0 other ∙ rooms_of_stock h H n g in
-          let left : left_at h G n ≡ left_at h H n = ap (λ r. r - sold_at h G n) rooms ∙ ap (λ s. rooms_at h H n - s) sold in
+          let left : rooms_left_at h G n ≡ rooms_left_at h H n = ap (λ r. r - sold_at h G n) rooms ∙ ap (λ s. rooms_at h H n - s) sold in
           left ∙ sym (cond-false _ _ _ (night_alone night n other))
     ]
   where

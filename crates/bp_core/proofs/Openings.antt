@@ -17,9 +17,9 @@ use Rattle.bp_core.specs.Acting.{opening_line}
 use Rattle.bp_core.specs.Lines.{no_line}
 use Rattle.bp_core.specs.Instance.{rooms_at, sold_at, forecast_of, rate_of, stay_now, units_left_at, instance_of}
 use Rattle.bp_core.specs.Legal.{IsLegal, IsLegalLine}
-use Rattle.bp_core.specs.Log.{Logged}
-use Rattle.bp_core.specs.Roll.{Kept}
-use Rattle.bp_core.specs.Keeping.{IsKept, numbers, inventory_of, entry_room, AreBookingsOf}
+use Rattle.bp_core.specs.Log.{LogView}
+use Rattle.bp_core.specs.Roll.{RollView}
+use Rattle.bp_core.specs.Keeping.{AreInStep, numbers, inventory_of, entry_room, AreBookingsOf}
 use Rattle.bp_core.proofs.Counts.{and_false}
 use Rattle.bp_core.proofs.Effects.{numbers_same}
 use Rattle.bp_core.proofs.Quiet.{IsQuiet, quiet_stock, quiet_forecasts, quiet_rates}
@@ -84,15 +84,15 @@ no_bookings board k = record {
 }
 
 -- each part of the book as it opens
-pub opening_is_kept : (h : Inn) (log : Logged) (roll : Kept) (inventory : Inventory) (forecasts rates : List ℕ) (board : Posted) → IsHouse h → board.position ≡ 0 → IsCertificateOf (opening h) board.certificate →
+pub opening_in_step : (h : Inn) (log : LogView) (roll : RollView) (inventory : Inventory) (forecasts rates : List ℕ) (board : Posted) → IsHouse h → board.position ≡ 0 → IsCertificateOf (opening h) board.certificate →
     log ≡ record { lines = opening_line board ∷ []; deltas = [] ∷ []; line_room = entry_room h; board_room = h.limits.publications } →
     roll ≡ record { standings = replicate CALLERS New; bookings = replicate CALLERS []; room = h.limits.entries } →
-    inventory ≡ record { rooms = h.rooms; sold = h.sold } → forecasts ≡ map (λ (s : Stay). s.forecast) h.stays → rates ≡ map (λ (s : Stay). s.rate) h.stays → IsKept h log roll inventory forecasts rates
-opening_is_kept h log roll inventory forecasts rates board is at certifies log_is roll_is inventory_is forecasts_are rates_are =
+    inventory ≡ record { rooms = h.rooms; sold = h.sold } → forecasts ≡ map (λ (s : Stay). s.forecast) h.stays → rates ≡ map (λ (s : Stay). s.rate) h.stays → AreInStep h log roll inventory forecasts rates
+opening_in_step h log roll inventory forecasts rates board is at certifies log_is roll_is inventory_is forecasts_are rates_are =
     let x : Line = opening_line board in
     let quiet = opening_is_quiet board in
-    let P : Logged → Type 0 = λ l. IsKept h l roll inventory forecasts rates in
-    let Q : Kept → Type 0 = λ k. IsKept h (record { lines = x ∷ []; deltas = [] ∷ []; line_room = entry_room h; board_room = h.limits.publications }) k inventory forecasts rates in
+    let P : LogView → Type 0 = λ l. AreInStep h l roll inventory forecasts rates in
+    let Q : RollView → Type 0 = λ k. AreInStep h (record { lines = x ∷ []; deltas = [] ∷ []; line_room = entry_room h; board_room = h.limits.publications }) k inventory forecasts rates in
     subst P (sym log_is) (subst Q (sym roll_is) (record {
       house = is;
       legal = opening_history_is_legal h board is at certifies;

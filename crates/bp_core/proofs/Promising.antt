@@ -14,7 +14,7 @@ use Rattle.bp_core.specs.declared.line.Reply.TheVariants.{TooLow}
 use Rattle.bp_core.specs.declared.call.Call.TheVariants.{Do as DoCall, Publish as PublishCall, Enrol as EnrolCall, Leave as LeaveCall}
 use Rattle.bp_core.specs.declared.call.Answer.TheVariants.{Logged, Superseded, PublicationsFull}
 use Rattle.bp_core.specs.Lines.{History, line_at, is_accepted, vectors, last_number, last_position}
-use Rattle.bp_core.specs.Instance.{span_of, rate_of, left_at, instance_of}
+use Rattle.bp_core.specs.Instance.{span_of, rate_of, rooms_left_at, instance_of}
 use Rattle.bp_core.specs.Changes.{is_change, changes_between}
 use Rattle.bp_core.specs.Answer.{sum_of, covered_reply, book_reply, IsReply}
 use Rattle.bp_core.specs.Legal.{IsCertified, is_newer}
@@ -24,13 +24,13 @@ use Rattle.bp_core.proofs.Prefixes.{take_take}
 use Rattle.bp_core.proofs.Vectors.{position_so_far}
 
 -- no night of the span lacks a room, where none is found
-rooms_where_none : (h : Inn) (H : History) (span : Span) → first_short (left_at h H) span 1 ≡ None → HasRooms h H span
+rooms_where_none : (h : Inn) (H : History) (span : Span) → first_short (rooms_left_at h H) span 1 ≡ None → HasRooms h H span
 rooms_where_none h H span none = λ n from to.
-    ltb-false (left_at h H n) 1 (none_passes (λ k. nat_lt (left_at h H k) 1) span.from (span.to - span.from) none n from (omega (arith, from, to)))
+    ltb-false (rooms_left_at h H n) 1 (none_passes (λ k. nat_lt (rooms_left_at h H k) 1) span.from (span.to - span.from) none n from (omega (arith, from, to)))
 
-none_where_rooms : (h : Inn) (H : History) (span : Span) → HasRooms h H span → first_short (left_at h H) span 1 ≡ None
+none_where_rooms : (h : Inn) (H : History) (span : Span) → HasRooms h H span → first_short (rooms_left_at h H) span 1 ≡ None
 none_where_rooms h H span rooms =
-    find-range_none (λ k. nat_lt (left_at h H k) 1) span.from (span.to - span.from) (λ k from to. le-ltb (left_at h H k) 1 (rooms k from (omega (arith, from, to))))
+    find-range_none (λ k. nat_lt (rooms_left_at h H k) 1) span.from (span.to - span.from) (λ k from to. le-ltb (rooms_left_at h H k) 1 (rooms k from (omega (arith, from, to))))
 
 covered_accepts : (vector sum : ℕ) (o : Option ℕ) → is_accepted (covered_reply vector sum o) ≡ true → o ≡ None
 covered_accepts vector sum None is = refl
@@ -40,7 +40,7 @@ accepted : (h : Inn) (H : History) (stay : ℕ) → is_accepted (book_reply h H 
 accepted h H stay is = go (nat_lt (rate_of h H stay) (sum_of h H stay)) refl is
   where
     go : (b : Bool) → nat_lt (rate_of h H stay) (sum_of h H stay) ≡ b →
-        is_accepted (cond b (TooLow (last_number H) (sum_of h H stay) (rate_of h H stay)) (covered_reply (last_number H) (sum_of h H stay) (first_short (left_at h H) (span_of h stay) 1))) ≡ true → PaysPrices h H stay × HasRooms h H (span_of h stay)
+        is_accepted (cond b (TooLow (last_number H) (sum_of h H stay) (rate_of h H stay)) (covered_reply (last_number H) (sum_of h H stay) (first_short (rooms_left_at h H) (span_of h stay) 1))) ≡ true → PaysPrices h H stay × HasRooms h H (span_of h stay)
     go true low e = absurd (cc)
     go false pays e = (ltb-false (rate_of h H stay) (sum_of h H stay) pays, rooms_where_none h H (span_of h stay) (covered_accepts _ _ _ e))
 

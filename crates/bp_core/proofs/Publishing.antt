@@ -12,12 +12,12 @@ use Rattle.bp_core.specs.Callers.{may_log}
 use Rattle.bp_core.specs.Changes.{changes_between}
 use Rattle.bp_core.specs.Instance.{instance_at}
 use Rattle.bp_core.specs.Legal.{IsLegal, IsLegalLine}
-use Rattle.bp_core.specs.Log.{Logged, published_line}
-use Rattle.bp_core.specs.Roll.{Kept}
-use Rattle.bp_core.specs.Keeping.{IsKept}
+use Rattle.bp_core.specs.Log.{LogView, published_line}
+use Rattle.bp_core.specs.Roll.{RollView}
+use Rattle.bp_core.specs.Keeping.{AreInStep}
 use Rattle.bp_core.proofs.Counts.{and_false, did_true, vectors_fit}
 use Rattle.bp_core.proofs.Effects.{opened}
-use Rattle.bp_core.proofs.KeptMore.{Follows}
+use Rattle.bp_core.proofs.InStepMore.{Follows}
 use Rattle.bp_core.proofs.Quiet.{IsQuiet, follows_quiet, quiet_forecasts, quiet_rates}
 
 pub vectors_left : (h : Inn) (H : History) → IsLegal h H → ((vectors H ≡ h.limits.publications) → ⊥) → vectors H < h.limits.publications
@@ -43,7 +43,7 @@ publish_is_legal h H caller board legal may within certifies newer not_full = re
 publish_is_quiet : (caller : ℕ) (board : Posted) (number : ℕ) → IsQuiet (published_line caller board number)
 publish_is_quiet caller board number = record { no_book = refl; no_resize = λ n. refl; no_cancel = λ k nth. and_false (caller == k); no_group = λ n. refl }
 
-pub publish_follows : (h : Inn) (log : Logged) (roll : Kept) (inventory : Inventory) (forecasts rates : List ℕ) (caller : ℕ) (board : Posted) → IsKept h log roll inventory forecasts rates →
+pub publish_follows : (h : Inn) (log : LogView) (roll : RollView) (inventory : Inventory) (forecasts rates : List ℕ) (caller : ℕ) (board : Posted) → AreInStep h log roll inventory forecasts rates →
     Follows h log.lines roll roll inventory forecasts rates (published_line caller board (vectors log.lines))
 publish_follows h log roll inventory forecasts rates caller board kept =
     let x : Line = published_line caller board (vectors log.lines) in

@@ -6,12 +6,12 @@ use Rattle.bp_core.specs.declared.line.Line.{Line}
 use Rattle.bp_core.specs.Lines.{History, is_book, is_cancellation}
 use Rattle.bp_core.specs.Callers.{is_enrol, is_leave}
 use Rattle.bp_core.specs.Instance.{resized_rooms, rooms_of_group, forecast_of, rate_of, reforecast_count, reprice_rate}
-use Rattle.bp_core.specs.Log.{Logged}
-use Rattle.bp_core.specs.Roll.{Kept, bookings_of}
-use Rattle.bp_core.specs.Keeping.{IsKept, numbers, inventory_of, AreBookingsOf}
+use Rattle.bp_core.specs.Log.{LogView}
+use Rattle.bp_core.specs.Roll.{RollView, bookings_of}
+use Rattle.bp_core.specs.Keeping.{AreInStep, numbers, inventory_of, AreBookingsOf}
 use Rattle.bp_core.proofs.Counts.{and_false}
 use Rattle.bp_core.proofs.Effects.{forecast_kept, rate_kept, numbers_same, stock_kept, standing_kept, bookings_kept}
-use Rattle.bp_core.proofs.KeptMore.{Follows}
+use Rattle.bp_core.proofs.InStepMore.{Follows}
 
 -- the line is no booking, and sells, sets and gives up no rooms
 pub record IsQuiet (x : Line) : Type 0 where
@@ -23,7 +23,7 @@ pub record IsQuiet (x : Line) : Type 0 where
 pub quiet_stock : (h : Inn) (H : History) (x : Line) → IsQuiet x → inventory_of h H ≡ inventory_of h (H ++ x ∷ [])
 quiet_stock h H x quiet = stock_kept h H x quiet.no_resize quiet.no_cancel (λ n. rw quiet.no_book refl) quiet.no_group
 
-pub quiet_bookings : (h : Inn) (H : History) (x : Line) (log : Logged) (roll : Kept) (caller : ℕ) → IsQuiet x → AreBookingsOf H caller (bookings_of roll caller) → AreBookingsOf (H ++ x ∷ []) caller (bookings_of roll caller)
+pub quiet_bookings : (h : Inn) (H : History) (x : Line) (log : LogView) (roll : RollView) (caller : ℕ) → IsQuiet x → AreBookingsOf H caller (bookings_of roll caller) → AreBookingsOf (H ++ x ∷ []) caller (bookings_of roll caller)
 quiet_bookings h H x log roll caller quiet were =
     bookings_kept H x caller (bookings_of roll caller) (rw quiet.no_book (and_false (x.entry.caller == caller))) (quiet.no_cancel caller) were
 
@@ -37,7 +37,7 @@ pub quiet_rates : (h : Inn) (H : History) (x : Line) → ((j : ℕ) → reprice_
 quiet_rates h H x none = numbers_same (rate_of h H) (rate_of h (H ++ x ∷ [])) (length h.stays) (λ j g. rate_kept h H x j (none j))
 
 -- a quiet line by which nobody enrols or leaves leaves the roll and the stock
-pub follows_quiet : (h : Inn) (log : Logged) (roll : Kept) (inventory : Inventory) (forecasts forecasts' rates rates' : List ℕ) (x : Line) → IsKept h log roll inventory forecasts rates → IsQuiet x →
+pub follows_quiet : (h : Inn) (log : LogView) (roll : RollView) (inventory : Inventory) (forecasts forecasts' rates rates' : List ℕ) (x : Line) → AreInStep h log roll inventory forecasts rates → IsQuiet x →
     is_enrol x.entry.act ≡ false → is_leave x.entry.act ≡ false →
     forecasts' ≡ map (forecast_of h (log.lines ++ x ∷ [])) (numbers (length h.stays)) → rates' ≡ map (rate_of h (log.lines ++ x ∷ [])) (numbers (length h.stays)) →
     Follows h log.lines roll roll inventory forecasts' rates' x

@@ -7,7 +7,7 @@ use Rattle.bp_types.specs.Spans.{first_short}
 use Rattle.bp_core.specs.declared.line.Reply.{Reply}
 use Rattle.bp_core.specs.declared.line.Reply.TheVariants.{TooLow, Done, BelowSold, GroupNoRoom}
 use Rattle.bp_core.specs.Lines.{History, is_accepted, is_done, is_group_accepted, last_number}
-use Rattle.bp_core.specs.Instance.{rate_of, sold_at, span_of, left_at}
+use Rattle.bp_core.specs.Instance.{rate_of, sold_at, span_of, rooms_left_at}
 use Rattle.bp_core.specs.Answer.{covered_reply, book_reply, sum_of, resize_reply, IsGroupReply}
 
 accepted_covered : (vector sum : ℕ) (full : Option ℕ) → is_accepted (covered_reply vector sum full) ≡ true → full ≡ None
@@ -15,10 +15,10 @@ accepted_covered vector sum None h = refl
 accepted_covered vector sum (Some night) h = absurd (cc)
 
 -- a booking is accepted only where each night of the stay has a room
-pub accepted_has_room : (h : Inn) (H : History) (stay : ℕ) → is_accepted (book_reply h H stay) ≡ true → first_short (left_at h H) (span_of h stay) 1 ≡ None
+pub accepted_has_room : (h : Inn) (H : History) (stay : ℕ) → is_accepted (book_reply h H stay) ≡ true → first_short (rooms_left_at h H) (span_of h stay) 1 ≡ None
 accepted_has_room h H stay accepted =
     let low : Reply = TooLow (last_number H) (sum_of h H stay) (rate_of h H stay) in
-    let rest : Reply = covered_reply (last_number H) (sum_of h H stay) (first_short (left_at h H) (span_of h stay) 1) in
+    let rest : Reply = covered_reply (last_number H) (sum_of h H stay) (first_short (rooms_left_at h H) (span_of h stay) 1) in
     elim (cases_Bool (nat_lt (rate_of h H stay) (sum_of h H stay))) [
       | inl below ↦ absurd (let e : false ≡ true = sym (ap is_accepted (cond-true _ low rest below)) ∙ accepted in (cc))
       | inr covered ↦ accepted_covered _ _ _ (sym (ap is_accepted (cond-false _ low rest covered)) ∙ accepted)
@@ -38,7 +38,7 @@ group_room (Some night) P reply replies accepted = absurd (let e : false ≡ tru
 
 -- a group is accepted only where each night of its span has the rooms
 pub accepted_group_has_rooms : (h : Inn) (H : History) (span : Span) (rooms amount : ℕ) (reply : Reply) →
-    IsGroupReply h H span rooms amount reply → is_group_accepted reply ≡ true → first_short (left_at h H) span rooms ≡ None
+    IsGroupReply h H span rooms amount reply → is_group_accepted reply ≡ true → first_short (rooms_left_at h H) span rooms ≡ None
 accepted_group_has_rooms h H span rooms amount reply replies accepted = group_room _ _ reply replies accepted
 
 -- a rate below the sum is too low
@@ -51,7 +51,7 @@ too_low_reply h H stay vector sum rate vector_is sum_is rate_is below =
     below_along a b c d e f g = omega arith
 
 -- a covered price is accepted, unless a night is full
-pub covered_is_reply : (h : Inn) (H : History) (stay vector sum rate : ℕ) (full : Option ℕ) → vector ≡ last_number H → sum ≡ sum_of h H stay → rate ≡ rate_of h H stay → sum ≤ rate → full ≡ first_short (left_at h H) (span_of h stay) 1 →
+pub covered_is_reply : (h : Inn) (H : History) (stay vector sum rate : ℕ) (full : Option ℕ) → vector ≡ last_number H → sum ≡ sum_of h H stay → rate ≡ rate_of h H stay → sum ≤ rate → full ≡ first_short (rooms_left_at h H) (span_of h stay) 1 →
     covered_reply vector sum full ≡ book_reply h H stay
 covered_is_reply h H stay vector sum rate full vector_is sum_is rate_is above full_is =
     let e : nat_lt (rate_of h H stay) (sum_of h H stay) ≡ false = le-ltb _ _ (above_along rate sum (rate_of h H stay) (sum_of h H stay) rate_is sum_is above) in

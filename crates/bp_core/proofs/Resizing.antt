@@ -15,15 +15,15 @@ use Rattle.bp_core.specs.Callers.{may_log}
 use Rattle.bp_core.specs.Instance.{resized_rooms, rooms_at, sold_at}
 use Rattle.bp_core.specs.Answer.{resize_reply}
 use Rattle.bp_core.specs.Legal.{IsLegal, IsLegalLine, is_in_range}
-use Rattle.bp_core.specs.Log.{Logged}
-use Rattle.bp_core.specs.Roll.{Kept}
-use Rattle.bp_core.specs.Keeping.{IsKept, inventory_of}
+use Rattle.bp_core.specs.Log.{LogView}
+use Rattle.bp_core.specs.Roll.{RollView}
+use Rattle.bp_core.specs.Keeping.{AreInStep, inventory_of}
 use Rattle.bp_core.proofs.Counts.{and_false, own_number, other_number}
 use Rattle.bp_core.proofs.Pushes.{last_value-push}
 use Rattle.bp_core.proofs.Sold.{sold_at-push}
 use Rattle.bp_core.proofs.Setting.{not_full_allowed}
 use Rattle.bp_core.proofs.Effects.{numbers_same, numbers_set, opened, bookings_kept, standing_kept, forecast_kept}
-use Rattle.bp_core.proofs.KeptMore.{Follows}
+use Rattle.bp_core.proofs.InStepMore.{Follows}
 use Rattle.bp_core.proofs.Quiet.{IsQuiet, follows_quiet, quiet_forecasts, quiet_rates}
 
 pub resize_is_legal : (h : Inn) (H : History) (caller night rooms : ℕ) (reply : Reply) → IsLegal h H → IsTrue (may_log H caller (Do (Resize night rooms))) → IsTrue (is_in_range h (Do (Resize night rooms))) → ((commands H ≡ h.limits.entries) → ⊥) →
@@ -50,7 +50,7 @@ done_reply h H night rooms above = sym (cond-false _ _ _ (le-ltb _ _ above))
 refused_is_quiet : (caller night rooms sold : ℕ) → IsQuiet (plain_line caller (Do (Resize night rooms)) (BelowSold sold))
 refused_is_quiet caller night rooms sold = record { no_book = refl; no_resize = λ n. refl; no_cancel = λ k nth. and_false (caller == k); no_group = λ n. refl }
 
-pub below_sold_follows : (h : Inn) (log : Logged) (roll : Kept) (inventory : Inventory) (forecasts rates : List ℕ) (caller night rooms sold : ℕ) → IsKept h log roll inventory forecasts rates →
+pub below_sold_follows : (h : Inn) (log : LogView) (roll : RollView) (inventory : Inventory) (forecasts rates : List ℕ) (caller night rooms sold : ℕ) → AreInStep h log roll inventory forecasts rates →
     Follows h log.lines roll roll inventory forecasts rates (plain_line caller (Do (Resize night rooms)) (BelowSold sold))
 below_sold_follows h log roll inventory forecasts rates caller night rooms sold kept =
     let x : Line = plain_line caller (Do (Resize night rooms)) (BelowSold sold) in
@@ -70,7 +70,7 @@ stock_resized h H caller night rooms within =
     let sold_are = numbers_same (sold_at h H) (sold_at h G) (length h.rooms) (λ n g. omega (arith, sold_at-push h H x n (λ k nth. and_false (caller == k)))) in
     ap (λ (r : List ℕ). record { rooms = r; sold = (inventory_of h H).sold }) rooms_are ∙ ap (λ (s : List ℕ). record { rooms = (inventory_of h G).rooms; sold = s }) sold_are
 
-pub resized_follows : (h : Inn) (log : Logged) (roll : Kept) (inventory inventory' : Inventory) (forecasts rates : List ℕ) (caller night rooms : ℕ) → IsKept h log roll inventory forecasts rates → night < length h.rooms → inventory' ≡ resized inventory night rooms →
+pub resized_follows : (h : Inn) (log : LogView) (roll : RollView) (inventory inventory' : Inventory) (forecasts rates : List ℕ) (caller night rooms : ℕ) → AreInStep h log roll inventory forecasts rates → night < length h.rooms → inventory' ≡ resized inventory night rooms →
     Follows h log.lines roll roll inventory' forecasts rates (plain_line caller (Do (Resize night rooms)) Done)
 resized_follows h log roll inventory inventory' forecasts rates caller night rooms kept within is =
     let H : History = log.lines in

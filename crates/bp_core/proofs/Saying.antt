@@ -18,7 +18,7 @@ use Rattle.bp_core.specs.declared.call.Answer.{Answer}
 use Rattle.bp_core.specs.declared.call.Answer.TheVariants.{Logged, HistoryFull, Behind, Unquoted, Stale, Superseded, PublicationsFull}
 use Rattle.bp_core.specs.Lines.{History, line_at, commands, last_position}
 use Rattle.bp_core.specs.Changes.{changes_after}
-use Rattle.bp_core.specs.Instance.{instance_of, left_at}
+use Rattle.bp_core.specs.Instance.{instance_of, rooms_left_at}
 use Rattle.bp_core.specs.Answer.{IsCommandReply, IsGroupReply, IsPricedReply, group_reply}
 use Rattle.bp_core.specs.Legal.{IsLegalLine}
 use Rattle.bp_core.specs.Acting.{Diary, IsLogged, IsRefused, refusal, command_refusal, quote_refusal, refuse_if}
@@ -33,7 +33,7 @@ last_line_is_legal h H x legal =
     subst Q (line_at-new H x) (subst P (take-append_seam H (x ∷ [])) each)
 
 group_once : DisplacementIsUnique → (h : Inn) (H : History) (span : Span) (rooms amount : ℕ) (r s : Reply) → IsGroupReply h H span rooms amount r → IsGroupReply h H span rooms amount s → r ≡ s
-group_once unique h H span rooms amount r s a b = go (first_short (left_at h H) span rooms) a b
+group_once unique h H span rooms amount r s a b = go (first_short (rooms_left_at h H) span rooms) a b
   where
     go : (o : Option ℕ) → MatchOption o (IsPricedReply h H span rooms amount r) (λ night. r ≡ GroupNoRoom night) → MatchOption o (IsPricedReply h H span rooms amount s) (λ night. s ≡ GroupNoRoom night) → r ≡ s
     go None x y =
@@ -86,9 +86,9 @@ quote_asked b c (Some x) a needs is = go (nat_le 1 (changes_after b.history x.po
 
 command_cause : (b : Diary) (c : Command) (q : Option Quoted) (a : Answer) → (IsFull b → ⊥) → command_refusal b.house b.history c q ≡ Some a → Causes b c q a
 command_cause b (Book stay) q a not_full is = behind b stay q a not_full is
-command_cause b (Group span rooms amount) q a not_full is = go (first_short (left_at b.house b.history) span rooms) refl is
+command_cause b (Group span rooms amount) q a not_full is = go (first_short (rooms_left_at b.house b.history) span rooms) refl is
   where
-    go : (o : Option ℕ) → first_short (left_at b.house b.history) span rooms ≡ o → cond (is_some o) None (quote_refusal b.history q) ≡ Some a → Causes b (Group span rooms amount) q a
+    go : (o : Option ℕ) → first_short (rooms_left_at b.house b.history) span rooms ≡ o → cond (is_some o) None (quote_refusal b.history q) ≡ Some a → Causes b (Group span rooms amount) q a
     go None e r = quote_asked b (Group span rooms amount) q a e r
     go (Some night) e r = no_some _ a r
 command_cause b (Cancel nth) q a not_full is = no_some _ a is

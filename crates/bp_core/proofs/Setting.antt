@@ -12,13 +12,13 @@ use Rattle.bp_core.specs.Lines.{History, since, commands}
 use Rattle.bp_core.specs.Callers.{may_log}
 use Rattle.bp_core.specs.Instance.{house_stay, forecast_of, rate_of, reforecast_count, reprice_rate, is_reforecast_of, is_book_of}
 use Rattle.bp_core.specs.Legal.{IsLegal, IsLegalLine, is_in_range}
-use Rattle.bp_core.specs.Log.{Logged}
-use Rattle.bp_core.specs.Roll.{Kept}
-use Rattle.bp_core.specs.Keeping.{IsKept}
+use Rattle.bp_core.specs.Log.{LogView}
+use Rattle.bp_core.specs.Roll.{RollView}
+use Rattle.bp_core.specs.Keeping.{AreInStep}
 use Rattle.bp_core.proofs.Counts.{and_false, own_number, other_number, commands_fit}
 use Rattle.bp_core.proofs.Pushes.{last_value-push, since-push_hit}
 use Rattle.bp_core.proofs.Effects.{numbers_set, count_set, opened, rate_kept}
-use Rattle.bp_core.proofs.KeptMore.{Follows}
+use Rattle.bp_core.proofs.InStepMore.{Follows}
 use Rattle.bp_core.proofs.Quiet.{IsQuiet, follows_quiet, quiet_forecast, quiet_forecasts, quiet_rates}
 
 -- a history that is not full has an entry left to give
@@ -71,7 +71,7 @@ forecast_set h H caller stay count =
     let none = since-push_hit (is_reforecast_of stay) H x (ap (λ (o : Option ℕ). is_some o) own) in
     ap (λ n. n - h.limits.unit * count_by (is_book_of stay) (since (is_reforecast_of stay) (H ++ x ∷ []))) now ∙ ap (λ l. count - h.limits.unit * count_by (is_book_of stay) l) none ∙ (let zero_times : h.limits.unit * 0 ≡ 0 = omega arith in omega (arith, zero_times))
 
-pub reforecast_follows : (h : Inn) (log : Logged) (roll : Kept) (inventory : Inventory) (forecasts rates : List ℕ) (caller stay count : ℕ) → IsKept h log roll inventory forecasts rates → stay < length h.stays →
+pub reforecast_follows : (h : Inn) (log : LogView) (roll : RollView) (inventory : Inventory) (forecasts rates : List ℕ) (caller stay count : ℕ) → AreInStep h log roll inventory forecasts rates → stay < length h.stays →
     Follows h log.lines roll roll inventory (set forecasts stay count) rates (plain_line caller (Do (Reforecast stay count)) Done)
 reforecast_follows h log roll inventory forecasts rates caller stay count kept within =
     let H : History = log.lines in
@@ -89,7 +89,7 @@ rate_set h H caller stay rate =
     let own : reprice_rate stay (Do (Reprice stay rate)) ≡ Some rate = cond-true _ _ _ (own_number stay) in
     last_value-push value (house_stay h stay).rate H x ∙ ap (λ o. unwrap_or o (rate_of h H stay)) own
 
-pub reprice_follows : (h : Inn) (log : Logged) (roll : Kept) (inventory : Inventory) (forecasts rates : List ℕ) (caller stay rate : ℕ) → IsKept h log roll inventory forecasts rates → stay < length h.stays →
+pub reprice_follows : (h : Inn) (log : LogView) (roll : RollView) (inventory : Inventory) (forecasts rates : List ℕ) (caller stay rate : ℕ) → AreInStep h log roll inventory forecasts rates → stay < length h.stays →
     Follows h log.lines roll roll inventory forecasts (set rates stay rate) (plain_line caller (Do (Reprice stay rate)) Done)
 reprice_follows h log roll inventory forecasts rates caller stay rate kept within =
     let H : History = log.lines in

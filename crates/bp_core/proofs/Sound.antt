@@ -16,7 +16,7 @@ use Rattle.bp_core.specs.declared.line.Act.TheVariants.{Do, Publish, Enrol, Leav
 use Rattle.bp_core.specs.declared.line.Reply.{Reply}
 use Rattle.bp_core.specs.declared.line.Line.{Line}
 use Rattle.bp_core.specs.Lines.{History, last_value, is_accepted, is_done, is_group_accepted}
-use Rattle.bp_core.specs.Instance.{house_stay, span_of, resized_rooms, rooms_at, sold_at, left_at, rooms_of_group, reforecast_count, reprice_rate, rate_of, stay_now, units_left_at}
+use Rattle.bp_core.specs.Instance.{house_stay, span_of, resized_rooms, rooms_at, sold_at, rooms_left_at, rooms_of_group, reforecast_count, reprice_rate, rate_of, stay_now, units_left_at}
 use Rattle.bp_core.specs.Answer.{IsReply}
 use Rattle.bp_core.specs.Legal.{IsLegal, IsLegalLine, is_in_range}
 use Rattle.bp_core.specs.Laws.{KeepsLimits, NeverOversold}
@@ -39,7 +39,7 @@ sells_what_is_left h H n caller (Do (Book stay)) reply certificate replies below
     (elim (cases_Bool (is_accepted reply && covers (span_of h stay) n)) [
       | inl both ↦
           let parts = and_parts _ _ both in
-          let room : 1 ≤ left_at h H n = enough_on (left_at h H) 1 (span_of h stay) n (accepted_has_room h H stay (sym (ap is_accepted replies) ∙ parts.0)) parts.1 in
+          let room : 1 ≤ rooms_left_at h H n = enough_on (rooms_left_at h H) 1 (span_of h stay) n (accepted_has_room h H stay (sym (ap is_accepted replies) ∙ parts.0)) parts.1 in
           rw both (omega (arith, room, below))
       | inr none ↦ rw none (omega (arith, below))
     ])
@@ -70,7 +70,7 @@ sells_what_is_left h H n caller (Do (Group span rooms amount)) reply certificate
           rw accepted
           (elim (cases_Bool (covers span n)) [
             | inl inside ↦
-                let enough : rooms ≤ left_at h H n = enough_on (left_at h H) rooms span n (accepted_group_has_rooms h H span rooms amount reply replies accepted) inside in
+                let enough : rooms ≤ rooms_left_at h H n = enough_on (rooms_left_at h H) rooms span n (accepted_group_has_rooms h H span rooms amount reply replies accepted) inside in
                 rw inside (omega (arith, enough, below))
             | inr outside ↦ rw outside (omega (arith, below))
           ])
@@ -142,7 +142,7 @@ sound_at h H n is legal within = at_each_position h (IsSound h) (sound_at_start 
 pub units_stay_small : (h : Inn) (H : History) (n : ℕ) → IsHouse h → IsSound h H → n < length h.rooms → units_left_at h H n ≤ MOST_UNITS
 units_stay_small h H n is sound g =
     let unit = unit_is_small h.limits.unit is.unit in
-    let left : left_at h H n ≤ 10000 = omega (arith, sound.rooms n g) in
+    let left : rooms_left_at h H n ≤ 10000 = omega (arith, sound.rooms n g) in
     omega (arith, mul-le-mul unit.1 left)
 
 pub keeps_limits : (h : Inn) (H : History) → IsHouse h → IsSound h H → KeepsLimits h H

@@ -13,7 +13,7 @@ use Rattle.bp_core.specs.Legal.{IsLegal}
 use Rattle.bp_core.specs.Roll.{is_new, is_present, is_gone}
 use Rattle.bp_core.specs.Keeping.{standing_by}
 use Rattle.bp_core.proofs.Counts.{counted_at, enrolled_by, did_true, did_old, and_false}
-use Rattle.bp_core.proofs.KeptBetween.{range-more}
+use Rattle.bp_core.proofs.StoredBetween.{range-more}
 use Rattle.bp_core.proofs.Prefixes.{at_each_position}
 use Rattle.bp_core.proofs.Pushes.{any-push}
 

@@ -10,10 +10,10 @@ use Rattle.bp_types.specs.House.{Inn}
 use Rattle.bp_types.proofs.Firsts.{none_passes}
 use Rattle.bp_types.proofs.RoomLemmas.{length-rooms_moved, rooms_moved-at}
 use Rattle.bp_types.specs.Spans.{first_short}
-use Rattle.bp_ledger.specs.Inventory.{left_on, HasLeft}
+use Rattle.bp_ledger.specs.Inventory.{rooms_left_on, HasLeft}
 use Rattle.bp_core.specs.declared.line.Line.{Line}
 use Rattle.bp_core.specs.Lines.{History}
-use Rattle.bp_core.specs.Instance.{rooms_at, sold_at, left_at, resized_rooms}
+use Rattle.bp_core.specs.Instance.{rooms_at, sold_at, rooms_left_at, resized_rooms}
 use Rattle.bp_core.specs.Keeping.{inventory_of}
 use Rattle.bp_core.proofs.Pushes.{last_value-push}
 use Rattle.bp_core.proofs.Effects.{numbers_same}
@@ -43,16 +43,16 @@ find-same p q a zero same = refl
 find-same p q a (suc n) same =
     ap (λ b. cond b (Some a) (find p (range_with_len (a + 1) n))) (same a (omega arith) (omega arith)) ∙ ap (λ o. cond (q a) (Some a) o) (find-same p q (a + 1) n (λ k above below. same k (omega arith) (omega arith)))
 
-pub left_of_stock : (h : Inn) (H : History) (n : ℕ) → n < length h.rooms → left_on (inventory_of h H) n ≡ left_at h H n
+pub left_of_stock : (h : Inn) (H : History) (n : ℕ) → n < length h.rooms → rooms_left_on (inventory_of h H) n ≡ rooms_left_at h H n
 left_of_stock h H n within = ap (λ r. r - slice_index (inventory_of h H).sold n) (rooms_of_stock h H n within) ∙ ap (λ s. rooms_at h H n - s) (sold_of_stock h H n within)
 
 -- the ledger finds the first night without rooms
-pub first_of_stock : (h : Inn) (H : History) (span : Span) (units : ℕ) → span.from < span.to → span.to ≤ length h.rooms → first_short (left_on (inventory_of h H)) span units ≡ first_short (left_at h H) span units
+pub first_of_stock : (h : Inn) (H : History) (span : Span) (units : ℕ) → span.from < span.to → span.to ≤ length h.rooms → first_short (rooms_left_on (inventory_of h H)) span units ≡ first_short (rooms_left_at h H) span units
 first_of_stock h H span units ordered within =
-    find-same (λ n. nat_lt (left_on (inventory_of h H) n) units) (λ n. nat_lt (left_at h H n) units) span.from (span.to - span.from) (λ n above below. ap (λ l. nat_lt l units) (left_of_stock h H n (omega arith)))
+    find-same (λ n. nat_lt (rooms_left_on (inventory_of h H) n) units) (λ n. nat_lt (rooms_left_at h H n) units) span.from (span.to - span.from) (λ n above below. ap (λ l. nat_lt l units) (left_of_stock h H n (omega arith)))
 
 -- where no night is without rooms, the ledger has them
-pub stock_has_left : (h : Inn) (H : History) (span : Span) (units : ℕ) → span.to ≤ length h.rooms → first_short (left_at h H) span units ≡ None → HasLeft (inventory_of h H) span units
+pub stock_has_left : (h : Inn) (H : History) (span : Span) (units : ℕ) → span.to ≤ length h.rooms → first_short (rooms_left_at h H) span units ≡ None → HasLeft (inventory_of h H) span units
 stock_has_left h H span units within none n above below =
-    let enough : units ≤ left_at h H n = ltb-false _ _ (none_passes (λ k. nat_lt (left_at h H k) units) span.from (span.to - span.from) none n above (omega arith)) in
+    let enough : units ≤ rooms_left_at h H n = ltb-false _ _ (none_passes (λ k. nat_lt (rooms_left_at h H k) units) span.from (span.to - span.from) none n above (omega arith)) in
     omega (arith, enough, left_of_stock h H n (omega arith))

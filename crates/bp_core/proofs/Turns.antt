@@ -2,15 +2,15 @@
 use Rattle.std.proofs.Common.{◌≡◌, ap, sym, subst, ◌∙◌, List, [], ◌∷◌, ◌++◌}
 use Rattle.bp_types.specs.declared.change.Change.{Change}
 use Rattle.bp_types.specs.Program.{Program}
-use Rattle.bp_types.proofs.Joins.{changes_join, fits_join}
+use Rattle.bp_types.proofs.Appending.{changes_append, fits_append}
 use Rattle.bp_types.specs.Changes.{changed, Fits, changed_by_all, FitInTurn, Leads}
 
 pub leads-append : (p q r : Program) (xs ys : List Change) → Leads p xs q → Leads q ys r → Leads p (xs ++ ys) r
 leads-append p q r xs ys start rest =
     let P : Program → Type 0 = λ s. FitInTurn s ys in
     record {
-      fits = fits_join p xs ys start.fits (subst P (sym start.gives) rest.fits);
-      gives = changes_join p xs ys ∙ ap (λ s. changed_by_all s ys) start.gives ∙ rest.gives;
+      fits = fits_append p xs ys start.fits (subst P (sym start.gives) rest.fits);
+      gives = changes_append p xs ys ∙ ap (λ s. changed_by_all s ys) start.gives ∙ rest.gives;
     }
 
 pub leads_none : (p q : Program) → p ≡ q → Leads p [] q

@@ -20,7 +20,7 @@ use Rattle.bp_core.specs.declared.call.Answer.{Answer}
 use Rattle.bp_core.specs.declared.call.Answer.TheVariants.{Logged, HistoryFull, Behind, Unquoted, Stale, Superseded, PublicationsFull}
 use Rattle.bp_core.specs.Lines.{History, commands, vectors, last_position}
 use Rattle.bp_core.specs.Callers.{may_log}
-use Rattle.bp_core.specs.Instance.{instance_at, left_at}
+use Rattle.bp_core.specs.Instance.{instance_at, rooms_left_at}
 use Rattle.bp_core.specs.Changes.{changes_between, changes_after}
 use Rattle.bp_core.specs.Answer.{IsReply}
 use Rattle.bp_core.specs.Legal.{is_in_range}
@@ -84,7 +84,7 @@ abbrev pub command_refusal : Inn → History → Command → Option Quoted → O
 command_refusal h H (Book stay) quoted =
     refuse_if (nat_le h.limits.stale_after (changes_after H (last_position H))) (Behind (last_position H) (changes_after H (last_position H)))
 command_refusal h H (Group span rooms amount) quoted =
-    if is_some (first_short (left_at h H) span rooms) then None else quote_refusal H quoted
+    if is_some (first_short (rooms_left_at h H) span rooms) then None else quote_refusal H quoted
 command_refusal h H _ quoted = None
 
 -- the refusal of a vector for a position

@@ -14,7 +14,7 @@ use Rattle.bp_core.specs.declared.line.Reply.{Reply}
 use Rattle.bp_core.specs.declared.line.Reply.TheVariants.{Accepted, TooLow, NoRoom, Cancelled, NotBooked, AlreadyCancelled, Done, BelowSold, GroupAccepted, GroupTooLow, GroupNoRoom, Vector}
 use Rattle.bp_core.specs.declared.line.Line.{Line}
 use Rattle.bp_core.specs.Lines.{History, is_accepted, is_cancellation, nth_book, vectors, last_number, last_prices}
-use Rattle.bp_core.specs.Instance.{span_of, rate_of, sold_at, instance_of, left_at}
+use Rattle.bp_core.specs.Instance.{span_of, rate_of, sold_at, instance_of, rooms_left_at}
 
 -- the price of a stay by the last vector
 abbrev pub sum_of : Inn → History → ℕ → ℕ
@@ -30,7 +30,7 @@ abbrev pub book_reply : Inn → History → ℕ → Reply
 book_reply h H stay =
     if nat_lt (rate_of h H stay) (sum_of h H stay)
     then TooLow (last_number H) (sum_of h H stay) (rate_of h H stay)
-    else covered_reply (last_number H) (sum_of h H stay) (first_short (left_at h H) (span_of h stay) 1)
+    else covered_reply (last_number H) (sum_of h H stay) (first_short (rooms_left_at h H) (span_of h stay) 1)
 
 -- the reply to a Cancel of this Book, where it was given up before, or not
 abbrev pub given_up_reply : Option Line → Bool → Reply
@@ -59,7 +59,7 @@ pub record IsPricedReply (h : Inn) (H : History) (span : Span) (rooms amount : �
 -- the reply to a Group
 abbrev pub IsGroupReply : Inn → History → Span → ℕ → ℕ → Reply → Type 0
 IsGroupReply h H span rooms amount reply =
-    MatchOption (first_short (left_at h H) span rooms) (IsPricedReply h H span rooms amount reply) (λ night. reply ≡ GroupNoRoom night)
+    MatchOption (first_short (rooms_left_at h H) span rooms) (IsPricedReply h H span rooms amount reply) (λ night. reply ≡ GroupNoRoom night)
 
 -- the reply to a command
 abbrev pub IsCommandReply : Inn → History → ℕ → Command → Reply → Type 0

@@ -13,14 +13,14 @@ use Rattle.bp_core.specs.declared.call.Call.{Call}
 use Rattle.bp_core.specs.declared.call.Call.TheVariants.{Publish as PublishCall}
 use Rattle.bp_core.specs.declared.call.Answer.TheVariants.{Logged}
 use Rattle.bp_core.specs.Lines.{History, line_at, is_accepted, last_position, last_prices}
-use Rattle.bp_core.specs.Instance.{span_of, rate_of, left_at, instance_at}
+use Rattle.bp_core.specs.Instance.{span_of, rate_of, rooms_left_at, instance_at}
 use Rattle.bp_core.specs.Changes.{changes_between}
 use Rattle.bp_core.specs.Legal.{IsLegal}
 use Rattle.bp_core.specs.Acting.{Diary, IsAnswered}
 
 -- every night of the span has a room
 abbrev pub HasRooms : Inn → History → Span → Type 0
-HasRooms h H span = (n : ℕ) → span.from ≤ n → n < span.to → 1 ≤ left_at h H n
+HasRooms h H span = (n : ℕ) → span.from ≤ n → n < span.to → 1 ≤ rooms_left_at h H n
 
 -- the rate of the stay is at least the sum of the prices of its nights in the last vector
 abbrev pub PaysPrices : Inn → History → ℕ → Type 0

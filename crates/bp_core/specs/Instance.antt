@@ -68,8 +68,8 @@ sold_at h H n =
     slice_index h.sold n + sum_below (λ i. if holds_room h H n i then 1 else 0) (length H) + sum_by (rooms_of_group n) H
 
 -- the rooms left on a night
-abbrev pub left_at : Inn → History → ℕ → ℕ
-left_at h H n = rooms_at h H n - sold_at h H n
+abbrev pub rooms_left_at : Inn → History → ℕ → ℕ
+rooms_left_at h H n = rooms_at h H n - sold_at h H n
 
 -- the count that a Reforecast sets for a stay
 abbrev pub reforecast_count : ℕ → Act → Option ℕ
@@ -104,7 +104,7 @@ stay_now h H j = record { span = span_of h j; rate = rate_of h H j; forecast = f
 
 -- the units left on a night
 abbrev pub units_left_at : Inn → History → ℕ → ℕ
-units_left_at h H n = h.limits.unit * left_at h H n
+units_left_at h H n = h.limits.unit * rooms_left_at h H n
 
 -- the instance after a history: the units left on each night, and the stays as they are now
 abbrev pub instance_of : Inn → History → Program

@@ -15,8 +15,8 @@ use Rattle.bp_core.specs.Callers.{has_enrolled, has_left}
 use Rattle.bp_core.specs.Instance.{rooms_at, sold_at, forecast_of, rate_of}
 use Rattle.bp_core.specs.Changes.{deltas_at}
 use Rattle.bp_core.specs.Legal.{IsLegal}
-use Rattle.bp_core.specs.Log.{Logged}
-use Rattle.bp_core.specs.Roll.{Kept, standing_of, bookings_of}
+use Rattle.bp_core.specs.Log.{LogView}
+use Rattle.bp_core.specs.Roll.{RollView, standing_of, bookings_of}
 
 -- the numbers of the nights, or of the stays
 abbrev pub numbers : ℕ → List ℕ
@@ -56,7 +56,7 @@ abbrev pub entry_room : Inn → ℕ
 entry_room h = h.limits.entries + h.limits.publications + 130
 
 -- each part of a book as its history says
-pub record IsKept (h : Inn) (log : Logged) (roll : Kept) (inventory : Inventory) (forecasts rates : List ℕ) : Type 0 where
+pub record AreInStep (h : Inn) (log : LogView) (roll : RollView) (inventory : Inventory) (forecasts rates : List ℕ) : Type 0 where
   pub house : IsHouse h
   pub legal : IsLegal h log.lines
   pub fed : log.deltas ≡ map (deltas_at h log.lines) (numbers (length log.lines))

@@ -40,7 +40,7 @@ lines_of [] bs = []
 lines_of (e ∷ es) bs = line_with e bs ∷ lines_of es (boards_after e bs)
 
 -- what contracts see of a log: lines and what each changes, and for how many there is room
-pub record Logged : Type 0 where
+pub record LogView : Type 0 where
   pub lines : History
   pub deltas : List (List Change)
   pub line_room : ℕ
@@ -64,5 +64,5 @@ published_line caller board number =
     record { entry = record { caller = caller; act = Publish board.position; reply = Vector number }; certificate = Some board.certificate }
 
 -- what the lines of the places from one up to, and not including, another change
-abbrev pub kept_between : List (List Change) → ℕ → ℕ → List Change
-kept_between deltas a b = flat_map (λ i. slice_index_or deltas i []) (range_with_len a (b - a))
+abbrev pub stored_between : List (List Change) → ℕ → ℕ → List Change
+stored_between deltas a b = flat_map (λ i. slice_index_or deltas i []) (range_with_len a (b - a))

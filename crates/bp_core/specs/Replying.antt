@@ -5,7 +5,7 @@ use Rattle.bp_types.specs.declared.command.Command.TheVariants.{Book, Group}
 use Rattle.bp_types.specs.declared.command.Quoted.{Quoted}
 use Rattle.bp_types.specs.House.{Inn}
 use Rattle.bp_types.specs.Spans.{first_short}
-use Rattle.bp_core.specs.Instance.{left_at}
+use Rattle.bp_core.specs.Instance.{rooms_left_at}
 use Rattle.bp_core.specs.declared.line.Act.{Act}
 use Rattle.bp_core.specs.declared.line.Act.TheVariants.{Do as DoAct}
 use Rattle.bp_core.specs.declared.line.Reply.{Reply}
@@ -47,7 +47,7 @@ pub record IsBehind (b : Diary) (command : Command) (position changes : ℕ) : T
 
 -- a Group for which there are rooms
 abbrev pub NeedsQuote : Diary → Command → Type 0
-NeedsQuote b (Group span rooms amount) = first_short (left_at b.house b.history) span rooms ≡ None
+NeedsQuote b (Group span rooms amount) = first_short (rooms_left_at b.house b.history) span rooms ≡ None
 NeedsQuote b _ = ⊥
 
 -- this many changes stand after the position of the quote

@@ -7,25 +7,25 @@ use Rattle.bp_core.specs.declared.roll.Fate.{Fate}
 use Rattle.bp_core.specs.declared.roll.Fate.TheVariants.{GivenUp}
 
 -- the callers by number, and for how many bookings of each there is room
-pub record Kept : Type 0 where
+pub record RollView : Type 0 where
   pub standings : List Standing
   pub bookings : List (List Booking)
   pub room : ℕ
 
 -- the standing of a caller
-abbrev pub standing_of : Kept → ℕ → Standing
+abbrev pub standing_of : RollView → ℕ → Standing
 standing_of k caller = slice_index_or k.standings caller New
 
 -- the bookings of a caller
-abbrev pub bookings_of : Kept → ℕ → List Booking
+abbrev pub bookings_of : RollView → ℕ → List Booking
 bookings_of k caller = slice_index_or k.bookings caller []
 
 -- the callers with one of another standing
-abbrev pub with_standing : Kept → ℕ → Standing → Kept
+abbrev pub with_standing : RollView → ℕ → Standing → RollView
 with_standing k caller standing = record k { standings = slice_set k.standings caller standing }
 
 -- the callers with other bookings of one
-abbrev pub with_bookings : Kept → ℕ → List Booking → Kept
+abbrev pub with_bookings : RollView → ℕ → List Booking → RollView
 with_bookings k caller bookings = record k { bookings = slice_set k.bookings caller bookings }
 
 -- the caller has no entry yet

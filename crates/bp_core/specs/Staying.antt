@@ -48,8 +48,8 @@ abbrev pub InstanceAtStart : Type 0
 InstanceAtStart = (h : Inn) (H : History) → instance_at h H 0 ≡ opening h
 
 -- what stands up to a position and what stands from there on is what stands in both
-abbrev pub DeltasJoin : Type 0
-DeltasJoin = (h : Inn) (H : History) (a b c : ℕ) → a ≤ b → b ≤ c → deltas_between h H a b ++ deltas_between h H b c ≡ deltas_between h H a c
+abbrev pub DeltasAppend : Type 0
+DeltasAppend = (h : Inn) (H : History) (a b c : ℕ) → a ≤ b → b ≤ c → deltas_between h H a b ++ deltas_between h H b c ≡ deltas_between h H a c
 
 -- what the entries between two positions change is the same in each longer history
 abbrev pub DeltasLast : Type 0

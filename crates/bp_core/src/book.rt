@@ -10,7 +10,7 @@ ghost use Rattle.bp_core.specs.declared.line.Line.{Line};
 ghost use Rattle.bp_board.specs.Posted.{Posted};
 ghost use Rattle.bp_core.specs.Lines.{published_position, is_accepted, has_given_up, commands, vectors, certificate_at, boards, last_number, last_position, last_prices};
 ghost use Rattle.bp_core.specs.Callers.{greatest_caller, may_act, may_enrol, may_log, left_of};
-ghost use Rattle.bp_core.specs.Instance.{rooms_at, sold_at, forecast_of, rate_of, instance_at, left_at};
+ghost use Rattle.bp_core.specs.Instance.{rooms_at, sold_at, forecast_of, rate_of, instance_at, rooms_left_at};
 ghost use Rattle.bp_core.specs.Changes.{changes_between, changes_after, deltas_between, resize_delta};
 ghost use Rattle.bp_core.specs.Answer.{book_reply};
 ghost use Rattle.bp_core.specs.Legal.{IsLegal};
@@ -48,13 +48,13 @@ pub struct Book {
 
 impl Model for Book {
     ghost use Rattle.bp_core.specs.Acting.{Diary};
-    ghost use Rattle.bp_core.specs.Keeping.{IsKept};
+    ghost use Rattle.bp_core.specs.Keeping.{AreInStep};
 
     ghost Value = { Diary };
 
     ghost view = { λ b. record { house = b.house; history = b.log.lines } };
 
-    ghost invariant = { λ b. IsKept b.house b.log b.roll b.ledger b.forecasts.items b.rates.items };
+    ghost invariant = { λ b. AreInStep b.house b.log b.roll b.ledger b.forecasts.items b.rates.items };
 }
 
 /// The number of the greatest caller.
@@ -336,7 +336,7 @@ impl Book {
         quote: Quoted,
     ) -> Answer
         requires may { MayDo self.old caller (Command.Group span rooms amount) }
-        requires rooms { first_short (left_at self.old.house self.old.history) span rooms ≡ None }
+        requires rooms { first_short (rooms_left_at self.old.house self.old.history) span rooms ≡ None }
         requires right { IsQuoteFor self.old.house self.old.history (Command.Group span rooms amount) quote }
         ensures { IsDone self.old self.new caller (Command.Group span rooms amount) (Some quote) result }
     {

@@ -1,7 +1,7 @@
 //! Laws over histories, as the contracts of functions that do nothing.
 
 ghost use Rattle.bp_core.specs.Laws.{PrefixesAreLegal, NeverOversold, DeltasLead, EveryListIsLegal};
-ghost use Rattle.bp_core.specs.Staying.{RightStaysRight, AnsweredContinues, ContinuedIsPrefix, MayLogByOwn, ChangesGrow, ChangesStay, InstanceStays, InstanceAtStart, DeltasJoin, DeltasLast};
+ghost use Rattle.bp_core.specs.Staying.{RightStaysRight, AnsweredContinues, ContinuedIsPrefix, MayLogByOwn, ChangesGrow, ChangesStay, InstanceStays, InstanceAtStart, DeltasAppend, DeltasLast};
 ghost use Rattle.bp_core.specs.Counting.{NothingMore, JustThese, VectorBetween, TurnsSettle, LastPositionWithin, LastBoardIsLast, LeaveIsLast, CommandsAddUp};
 ghost use Rattle.bp_core.specs.Replying.{LastLineIsLegal, OneReply, AnswersSay};
 ghost use Rattle.bp_core.specs.Headline.{AcceptedExactly, VectorsAreOptimal, VectorsAreNewer, LeastIsKept};
@@ -69,8 +69,8 @@ pub fn instance_at_start()
 {}
 
 /// What stands up to a position and what stands from there on is what stands in both.
-pub fn deltas_join()
-    ensures { DeltasJoin }
+pub fn deltas_append()
+    ensures { DeltasAppend }
 {}
 
 /// What the entries between two positions change is the same in each longer history.

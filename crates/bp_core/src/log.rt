@@ -5,7 +5,7 @@ ghost use Rattle.bp_core.specs.declared.line.Line.{Line};
 ghost use Rattle.bp_core.specs.Lines.{line_at, published_position, is_command, commands, vectors, boards};
 ghost use Rattle.bp_core.specs.Changes.{is_change, changes_between};
 ghost use Rattle.bp_core.specs.Deltas.{delta_list};
-ghost use Rattle.bp_core.specs.Log.{Logged, published_line, kept_between};
+ghost use Rattle.bp_core.specs.Log.{LogView, published_line, stored_between};
 
 use crate::deltas::Deltas;
 use crate::{Act, Entry, Reply};
@@ -32,9 +32,9 @@ impl Model for Log {
     ghost use Rattle.std.specs.Prelude.{map, vec_capacity, ◌≡◌, ◌+◌};
     ghost use Rattle.std.specs.Arc.{arc_value};
     ghost use Rattle.bp_core.specs.Deltas.{delta_list};
-    ghost use Rattle.bp_core.specs.Log.{Logged, IsLog, lines_of};
+    ghost use Rattle.bp_core.specs.Log.{LogView, IsLog, lines_of};
 
-    ghost Value = { Logged };
+    ghost Value = { LogView };
 
     ghost view = { λ l. record { lines = lines_of l.entries.items (map arc_value l.boards.items); deltas = map delta_list l.deltas.items; line_room = vec_capacity l.entries; board_room = vec_capacity l.boards } };
 
@@ -142,8 +142,8 @@ impl Log {
         requires room { 2 ≤ vec_capacity into.old }
         ensures reached { (from ≤ result) × (result ≤ until) }
         ensures moves { from < until → from < result }
-        ensures items { into.new.items ≡ kept_between self.now.deltas from result }
-        ensures full { result < until → vec_capacity into.old < length (kept_between self.now.deltas from (result + 1)) }
+        ensures items { into.new.items ≡ stored_between self.now.deltas from result }
+        ensures full { result < until → vec_capacity into.old < length (stored_between self.now.deltas from (result + 1)) }
         ensures capacity { vec_capacity into.new ≡ vec_capacity into.old }
     {
         let _ = &self.commands;

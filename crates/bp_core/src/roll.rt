@@ -1,5 +1,5 @@
 ghost use Rattle.std.specs.Prelude.{◌≡◌, ◌+◌, ◌-◌, ◌<◌, ◌≤◌, ◌++◌, ◌∷◌, [], Some, length, slice_get, slice_set, IfOk, replicate};
-ghost use Rattle.bp_core.specs.Roll.{Kept, standing_of, is_new, is_present, is_gone, bookings_of, with_standing, with_bookings};
+ghost use Rattle.bp_core.specs.Roll.{RollView, standing_of, is_new, is_present, is_gone, bookings_of, with_standing, with_bookings};
 
 use bp_types::Memory;
 use bp_types::limits::CALLERS;
@@ -43,9 +43,9 @@ impl Model for Roll {
     ghost use Rattle.std.specs.declared.vec.Vec.{Vec};
     ghost use Rattle.bp_core.specs.declared.roll.Booking.{Booking};
     ghost use Rattle.bp_types.specs.declared.limits.TheConstants.{CALLERS};
-    ghost use Rattle.bp_core.specs.Roll.{Kept};
+    ghost use Rattle.bp_core.specs.Roll.{RollView};
 
-    ghost Value = { Kept };
+    ghost Value = { RollView };
 
     ghost view = { λ r. record { standings = r.standings.items; bookings = map (λ (v : Vec Booking Global). v.items) r.bookings.items; room = r.room } };
 

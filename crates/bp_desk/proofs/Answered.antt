@@ -16,7 +16,7 @@ use Rattle.bp_core.specs.Lines.{History, calls, is_by, commands, vectors, last_p
 use Rattle.bp_core.specs.Changes.{changes_after, changes_between}
 use Rattle.bp_types.specs.declared.stay.Span.{Span}
 use Rattle.bp_types.specs.Spans.{first_short}
-use Rattle.bp_core.specs.Instance.{left_at}
+use Rattle.bp_core.specs.Instance.{rooms_left_at}
 use Rattle.bp_core.specs.Acting.{Diary, IsLogged, IsRefused, IsAnswered, refusal, command_refusal, quote_refusal, refuse_if, line_of}
 use Rattle.bp_core.specs.Answer.{IsGroupReply, IsPricedReply}
 use Rattle.bp_desk.specs.Calling.{is_logged}
@@ -38,7 +38,7 @@ quote_refused H (Some q) o is = if_refused (nat_le 1 (changes_after H q.position
 
 command_refused : (h : Inn) (H : History) (c : Command) (q : Option Quoted) (o : Answer) → command_refusal h H c q ≡ Some o → is_logged o ≡ false
 command_refused h H (Book stay) q o is = if_refused (nat_le h.limits.stale_after (changes_after H (last_position H))) (Behind (last_position H) (changes_after H (last_position H))) o refl is
-command_refused h H (Group span rooms amount) q o is = go (is_some (first_short (left_at h H) span rooms)) is
+command_refused h H (Group span rooms amount) q o is = go (is_some (first_short (rooms_left_at h H) span rooms)) is
   where
     go : (b : Bool) → cond b None (quote_refusal H q) ≡ Some o → is_logged o ≡ false
     go true e = no_some (is_logged o ≡ false) o e
@@ -101,10 +101,10 @@ group_refused h H span rooms amount q o is = full (commands H == h.limits.entrie
 
     full : (b : Bool) → cond b (Some HistoryFull) (command_refusal h H (Group span rooms amount) q) ≡ Some o → is_group_answer o ≡ true
     full true e = subst (λ x. is_group_answer x ≡ true) (same_some HistoryFull o e) refl
-    full false e = lacks (is_some (first_short (left_at h H) span rooms)) e
+    full false e = lacks (is_some (first_short (rooms_left_at h H) span rooms)) e
 
 group_replied : (h : Inn) (H : History) (span : Span) (rooms amount : ℕ) (r : Reply) → IsGroupReply h H span rooms amount r → is_group_reply r ≡ true
-group_replied h H span rooms amount r is = go (first_short (left_at h H) span rooms) is
+group_replied h H span rooms amount r is = go (first_short (rooms_left_at h H) span rooms) is
   where
     priced : (b : Bool) (d : ℕ) → is_group_reply (cond b (GroupTooLow d) (GroupAccepted d)) ≡ true
     priced true d = refl

@@ -1,7 +1,7 @@
 ghost use Rattle.std.specs.Prelude.{◌≡◌, ℕ, ◌+◌, ◌<◌, ◌≤◌, ◌^◌, ◌↔◌, true, false, length, slice_index, EachIndex, IfOk, IfErr, IsErr, OnOk, OnErr};
 ghost use Rattle.bp_types.specs.Rooms.{rooms_moved};
 ghost use Rattle.bp_types.specs.Spans.{IsSpanWithin, first_short};
-ghost use Rattle.bp_ledger.specs.Inventory.{Inventory, IsInventory, HasLeft, HasSold, taken, released, resized, left_on};
+ghost use Rattle.bp_ledger.specs.Inventory.{Inventory, IsInventory, HasLeft, HasSold, taken, released, resized, rooms_left_on};
 
 use bp_types::{Memory, Span};
 use std::alloc::Global;
@@ -48,7 +48,7 @@ impl Ledger {
     /// The first night of the span with fewer rooms left than `units`, if there is one.
     pub fn first_full(&self, span: Span, units: u64) -> Option<u32>
         requires { IsSpanWithin (length self.now.rooms) span }
-        ensures { result ≡ first_short (left_on self.now) span units }
+        ensures { result ≡ first_short (rooms_left_on self.now) span units }
     {
         for night in span.from..span.to {
             if self.rooms(night) - self.sold(night) < units {

@@ -1,7 +1,7 @@
 ghost use Rattle.std.specs.Prelude.{◌≡◌, ℕ, ◌+◌, ◌-◌, ◌*◌, ◌^◌, ◌<◌, ◌≤◌, [], length, replicate, slice_index, All, drop, false, IfOk};
 ghost use Rattle.bp_residual.specs.Network.{Priced, IsSlack, IsPriced, Admits, step_of, steps_of, arcs, nodes};
 ghost use Rattle.bp_paths.specs.Labels.{AreLabelsSoFar, IsTracedPath};
-ghost use Rattle.bp_paths.specs.Paths.{far, Kept, Serves, AreDistancesTo, IsFound, distance_of, least_room};
+ghost use Rattle.bp_paths.specs.Paths.{far, ScratchView, Serves, AreDistancesTo, IsFound, distance_of, least_room};
 
 use crate::labels::Labels;
 use bp_residual::{Flow, Hop};
@@ -35,9 +35,9 @@ pub struct Scratch {
 
 impl Model for Scratch {
     ghost use Rattle.std.specs.Prelude.{◌≡◌, ◌≤◌, length, drop};
-    ghost use Rattle.bp_paths.specs.Paths.{Kept};
+    ghost use Rattle.bp_paths.specs.Paths.{ScratchView};
 
-    ghost Value = { Kept };
+    ghost Value = { ScratchView };
 
     ghost view = { λ a. record { distances = a.labels.kept.items; path = drop a.start a.slots.items; served = a.served } };
 

@@ -24,7 +24,7 @@ use Rattle.bp_stayfile.specs.Codes.{stay_with}
 use Rattle.bp_stayfile.specs.Cells.{code_in, number_in, date_in, span_in}
 use Rattle.bp_stayfile.proofs.CodeLemmas.{position-within}
 use Rattle.bp_script.specs.declared.request.Request.{Request}
-use Rattle.bp_script.specs.declared.request.TheConstants.{MOST_SESSIONS}
+use Rattle.bp_types.specs.declared.limits.TheConstants.{MOST_SESSIONS}
 use Rattle.bp_script.specs.declared.verb.Verb.{Verb}
 use Rattle.bp_script.specs.declared.verb.Verb.TheVariants as verb
 use Rattle.bp_script.specs.Verbs.{verb_in}

@@ -13,7 +13,7 @@ use Rattle.bp_stayfile.specs.declared.error.TableRefusal.{TableRefusal}
 use Rattle.bp_stayfile.specs.Tables.{Record, Table, table_of}
 use Rattle.bp_stayfile.specs.Reading.{rows_read, table_read, unless_stopped}
 use Rattle.bp_script.specs.declared.request.Request.{Request}
-use Rattle.bp_script.specs.declared.request.TheConstants.{MOST_SESSIONS}
+use Rattle.bp_types.specs.declared.limits.TheConstants.{MOST_SESSIONS}
 use Rattle.bp_script.specs.Scripts.{request_in, request_rule, script_columns, commands_of, greatest_session, by_session, requests_file, script_file}
 use Rattle.bp_script.specs.Laws.{SessionsAreFew, CommandsAreInRange}
 use Rattle.bp_script.proofs.RequestLemmas.{passed, request_fits, request-session}

@@ -4,7 +4,7 @@ use Rattle.bp_types.specs.declared.command.Command.{Command}
 use Rattle.bp_types.specs.House.{Inn}
 use Rattle.bp_core.specs.Legal.{is_command_in_range}
 use Rattle.bp_hotelfile.specs.Season.{Season}
-use Rattle.bp_script.specs.declared.request.TheConstants.{MOST_SESSIONS}
+use Rattle.bp_types.specs.declared.limits.TheConstants.{MOST_SESSIONS}
 use Rattle.bp_script.specs.Scripts.{script_file}
 
 -- a script has no more sessions than there may be

@@ -14,7 +14,7 @@ use Rattle.bp_stayfile.specs.Fields.{number_of}
 use Rattle.bp_stayfile.specs.Tables.{Record, table_of}
 use Rattle.bp_stayfile.specs.Reading.{table_read}
 use Rattle.bp_script.specs.declared.request.Request.{Request}
-use Rattle.bp_script.specs.declared.request.TheConstants.{MOST_SESSIONS}
+use Rattle.bp_types.specs.declared.limits.TheConstants.{MOST_SESSIONS}
 use Rattle.bp_script.specs.Verbs.{verb_in}
 use Rattle.bp_script.specs.Commands.{command_in}
 

@@ -15,5 +15,4 @@ mod tests;
 mod verb;
 
 pub use commands::Commands;
-pub use request::MOST_SESSIONS;
 pub use script::read_script;

@@ -7,10 +7,7 @@ use bp_hotelfile::Hotel;
 use bp_stayfile::tables::{Rows, number_of};
 use bp_stayfile::{Codes, TableRefusal};
 use bp_types::Command;
-use bp_types::limits::MOST_ENTRIES;
-
-/// Sessions of a script, at most. The first is session 1.
-pub const MOST_SESSIONS: u32 = 32;
+use bp_types::limits::{MOST_ENTRIES, MOST_SESSIONS};
 
 /// What a row asks of a session.
 #[derive(Clone, Copy)]

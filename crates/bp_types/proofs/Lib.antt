@@ -6,7 +6,7 @@ pub mod PriceLemmas
 pub mod Duality
 pub mod LimitLemmas
 pub mod Fewer
-pub mod Joins
+pub mod Appending
 pub mod Bands
 pub mod Unique
 pub mod Firsts

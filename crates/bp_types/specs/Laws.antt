@@ -53,11 +53,11 @@ PriceIsBelowLoss =
     (p : Program) (prices : List ℕ) (night loss : ℕ) → AreOptimalPrices p prices → IsLoss p night loss → slice_index prices night ≤ loss
 
 -- two lists of changes lead where one list of them all leads
-abbrev pub ChangesJoin : Type 0
-ChangesJoin =
+abbrev pub ChangesAppend : Type 0
+ChangesAppend =
     (p : Program) (first second : List Change) → changed_by_all p (first ++ second) ≡ changed_by_all (changed_by_all p first) second
 
 -- two lists that fit one after the other fit as one
-abbrev pub FitsJoin : Type 0
-FitsJoin =
+abbrev pub FitsAppend : Type 0
+FitsAppend =
     (p : Program) (first second : List Change) → FitInTurn p first → FitInTurn (changed_by_all p first) second → FitInTurn p (first ++ second)

@@ -1,6 +1,6 @@
 //! Laws over the definitions, as the contracts of functions that do nothing.
 
-ghost use Rattle.bp_types.specs.Laws.{WeakDuality, CertificateIsOptimal, OptimumIsUnique, LeastPricesAreUnique, DisplacementIsUnique, CertificatesTellDisplacement, GainIsBelowPrice, PriceIsBelowLoss, ChangesJoin, FitsJoin};
+ghost use Rattle.bp_types.specs.Laws.{WeakDuality, CertificateIsOptimal, OptimumIsUnique, LeastPricesAreUnique, DisplacementIsUnique, CertificatesTellDisplacement, GainIsBelowPrice, PriceIsBelowLoss, ChangesAppend, FitsAppend};
 
 /// No allocation, whole or fractional, is worth more than the bound of any prices.
 pub fn weak_duality()
@@ -42,7 +42,7 @@ pub fn prices_lie_in_the_band()
 }
 
 /// Changes that are made in two goes lead where they lead in one, and fit in one where they fit in two.
-pub fn changes_join()
-    ensures changes { ChangesJoin }
-    ensures fits { FitsJoin }
+pub fn changes_append()
+    ensures changes { ChangesAppend }
+    ensures fits { FitsAppend }
 {}

@@ -44,3 +44,30 @@ pub const MOST_GROUP_ROOMS: u64 = MOST_ROOMS;
 
 /// The amount that a group pays, at most, in minor units of money.
 pub const MOST_AMOUNT: u64 = 1_000_000_000_000_000;
+
+/// Sessions of a run, at most.
+pub const MOST_SESSIONS: u32 = 32;
+
+/// Optimisers of a hotel's run, at most.
+pub const MOST_WORKERS: u32 = 16;
+
+/// Views of a screen, at most. A screen has 1 at least.
+pub const MOST_VIEWS: u32 = 16;
+
+/// Scenarios of a text of changes, at most.
+pub const MOST_SCENARIOS: usize = 20_000;
+
+/// Change lines of a text of changes, and changes of one list, at most.
+pub const MOST_CHANGES: usize = 100_000;
+
+/// Hotels of a portfolio, at most. A portfolio has 1 at least.
+pub const MOST_HOTELS: usize = 8;
+
+/// Bytes of the name of a file in a portfolio's list, at most. A name has 1 at least.
+pub const MOST_NAME: usize = 200;
+
+/// Bytes of a journal's file, at most: 64 MiB.
+pub const MOST_JOURNAL_BYTES: u64 = 1 << 26;
+
+/// Bytes of any other file, at most: 16 MiB.
+pub const MOST_FILE_BYTES: u64 = 1 << 24;

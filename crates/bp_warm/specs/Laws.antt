@@ -6,7 +6,7 @@ use Rattle.bp_types.specs.Changes.{changed_by_all}
 use Rattle.bp_warm.specs.Turns.{units_moved_by_all}
 
 -- two lists move what one list of them all moves
-abbrev pub UnitsJoin : Type 0
-UnitsJoin =
+abbrev pub UnitsAppend : Type 0
+UnitsAppend =
     (p : Program) (first second : List Change) →
     units_moved_by_all p (first ++ second) ≡ units_moved_by_all p first + units_moved_by_all (changed_by_all p first) second

@@ -1,9 +1,9 @@
 //! Laws over the definitions, as the contracts of functions that do nothing.
 
-ghost use Rattle.bp_warm.specs.Laws.{UnitsJoin};
+ghost use Rattle.bp_warm.specs.Laws.{UnitsAppend};
 
 /// Changes that are made in two goes move as many units as in one. Where they lead, and that they fit, is
-/// `changes_join` of `bp_types`.
-pub fn units_join()
-    ensures { UnitsJoin }
+/// `changes_append` of `bp_types`.
+pub fn units_append()
+    ensures { UnitsAppend }
 {}

@@ -15,12 +15,12 @@ use Rattle.bp_core.specs.Acting.{Diary, MayDo, plain_line}
 use Rattle.bp_core.specs.Answer.{book_reply}
 use Rattle.bp_core.specs.Changes.{changes_between, changes_after}
 use Rattle.bp_core.specs.Lines.{last_position, is_accepted}
-use Rattle.bp_core.specs.Instance.{forecast_of, left_at}
+use Rattle.bp_core.specs.Instance.{forecast_of, rooms_left_at}
 use Rattle.bp_core.specs.Keeping.{inventory_of, fate_by}
 use Rattle.bp_core.proofs.Counts.{has_room}
 use Rattle.bp_core.proofs.Answering.{pushed}
 use Rattle.bp_core.proofs.Effects.{number_read}
-use Rattle.bp_core.proofs.KeptMore.{kept_more}
+use Rattle.bp_core.proofs.InStepMore.{in_step_more}
 use Rattle.bp_core.proofs.Replies.{accepted_has_room}
 use Rattle.bp_core.proofs.Resizing.{nights_of_stock}
 use Rattle.bp_core.proofs.Setting.{not_full_allowed}
@@ -61,7 +61,7 @@ take-requires-clause-left c =
     let inside : c.stay.result.span.to ≤ length c.self.inside.house.rooms = omega (arith, spans.1, ap (λ (s : Span). s.to) span) in
     let reply = c.book_reply-reply.ensures ∙ ap (λ (b : Diary). book_reply b.house b.history c.args.stay) (sym c.self.view_is) in
     let accepted = sym c.is_accepted.ensures ∙ c.if-is_accepted.true in
-    let none = ap (λ s. first_short (left_at c.self.inside.house c.self.inside.log.lines) s 1) span ∙ accepted_has_room c.self.inside.house c.self.inside.log.lines c.args.stay (sym (ap is_accepted reply) ∙ accepted) in
+    let none = ap (λ s. first_short (rooms_left_at c.self.inside.house c.self.inside.log.lines) s 1) span ∙ accepted_has_room c.self.inside.house c.self.inside.log.lines c.args.stay (sym (ap is_accepted reply) ∙ accepted) in
     let P : Inventory → Type 0 = λ v. HasLeft v c.stay.result.span 1 in
     subst P (sym c.self.invariant.stock) (stock_has_left c.self.inside.house c.self.inside.log.lines c.stay.result.span 1 inside none)
 
@@ -120,7 +120,7 @@ invariant_of-self c =
     let x : Line = plain_line c.args.caller (Do (Book c.args.stay)) c.book_reply-reply.result in
     let log = c.logged.ensures.log ∙ ap (λ (d : List Change). pushed c.self.inside.log x d) (deltas_booked c.self.inside.house c.self.inside.log.lines c.args.caller c.args.stay _ _ _ c.book_reply-reply.result accepted span units value) in
     let stock = c.take.ensures ∙ ap (λ v. taken v c.stay.result.span 1) c.self.invariant.stock ∙ ap (λ s. taken (inventory_of c.self.inside.house c.self.inside.log.lines) s 1) span ∙ stock_booked c.self.inside.house c.self.inside.log.lines c.args.caller c.args.stay c.book_reply-reply.result accepted in
-    rw c.add.ensures (kept_more _ _ _ _ _ _ _ _ _ _ _ _ c.self.invariant (book_is_legal _ _ c.args.caller c.args.stay _ c.self.invariant.legal may.caller_may may.in_range may.not_full fresh reply) log (book_follows _ _ _ _ _ _ _ c.args.caller c.args.stay _ _ _ c.self.invariant small within value refl (ap (λ b. fate_by b false) (sym accepted)) stock))
+    rw c.add.ensures (in_step_more _ _ _ _ _ _ _ _ _ _ _ _ c.self.invariant (book_is_legal _ _ c.args.caller c.args.stay _ c.self.invariant.legal may.caller_may may.in_range may.not_full fresh reply) log (book_follows _ _ _ _ _ _ _ c.args.caller c.args.stay _ _ _ c.self.invariant small within value refl (ap (λ b. fate_by b false) (sym accepted)) stock))
 
 pub invariant_of-self-else-is_accepted : goal.invariant_of-self-else-is_accepted
 invariant_of-self-else-is_accepted c =
@@ -140,4 +140,4 @@ invariant_of-self-else-is_accepted c =
     let x : Line = plain_line c.args.caller (Do (Book c.args.stay)) c.book_reply-reply.result in
     let log = c.logged-else-is_accepted.ensures.log ∙ ap (λ (d : List Change). pushed c.self.inside.log x d) (deltas_refused c.self.inside.house c.self.inside.log.lines c.args.caller c.args.stay _ c.book_reply-reply.result refused value) in
     let stock = c.self.invariant.stock ∙ stock_refused c.self.inside.house c.self.inside.log.lines c.args.caller c.args.stay c.book_reply-reply.result refused in
-    rw c.add-else-is_accepted.ensures (kept_more _ _ _ _ _ _ _ _ _ _ _ _ c.self.invariant (book_is_legal _ _ c.args.caller c.args.stay _ c.self.invariant.legal may.caller_may may.in_range may.not_full fresh reply) log (book_follows _ _ _ _ _ _ _ c.args.caller c.args.stay _ _ _ c.self.invariant small within value refl (ap (λ b. fate_by b false) (sym refused)) stock))
+    rw c.add-else-is_accepted.ensures (in_step_more _ _ _ _ _ _ _ _ _ _ _ _ c.self.invariant (book_is_legal _ _ c.args.caller c.args.stay _ c.self.invariant.legal may.caller_may may.in_range may.not_full fresh reply) log (book_follows _ _ _ _ _ _ _ c.args.caller c.args.stay _ _ _ c.self.invariant small within value refl (ap (λ b. fate_by b false) (sym refused)) stock))

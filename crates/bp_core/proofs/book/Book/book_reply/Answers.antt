@@ -5,11 +5,11 @@ use Rattle.bp_types.specs.declared.stay.Stay.{Stay}
 use Rattle.bp_types.specs.Program.{price, no_stay}
 use Rattle.bp_types.specs.House.{Inn}
 use Rattle.bp_types.specs.Spans.{first_short}
-use Rattle.bp_ledger.specs.Inventory.{Inventory, left_on}
+use Rattle.bp_ledger.specs.Inventory.{Inventory, rooms_left_on}
 use Rattle.bp_core.specs.Acting.{Diary}
 use Rattle.bp_core.specs.Answer.{book_reply}
 use Rattle.bp_core.specs.Lines.{History, last_prices}
-use Rattle.bp_core.specs.Instance.{rate_of, left_at}
+use Rattle.bp_core.specs.Instance.{rate_of, rooms_left_at}
 use Rattle.bp_core.proofs.Boards.{ends_with}
 use Rattle.bp_core.proofs.Effects.{number_read}
 use Rattle.bp_core.proofs.Replies.{too_low_reply, covered_is_reply}
@@ -58,7 +58,7 @@ returns-in-Some c =
     let spans = c.self.invariant.house.instance.spans c.args.stay no_stay within in
     let ordered : c.stay.result.span.from < c.stay.result.span.to = omega (arith, spans.0, ap (λ (s : Span). s.from) span, ap (λ (s : Span). s.to) span) in
     let inside : c.stay.result.span.to ≤ length c.self.inside.house.rooms = omega (arith, spans.1, ap (λ (s : Span). s.to) span) in
-    let full = sym c.in-Some.is ∙ c.first_full.ensures ∙ ap (λ (v : Inventory). first_short (left_on v) c.stay.result.span 1) c.self.invariant.stock ∙ first_of_stock c.self.inside.house c.self.inside.log.lines c.stay.result.span 1 ordered inside ∙ ap (λ s. first_short (left_at c.self.inside.house c.self.inside.log.lines) s 1) span in
+    let full = sym c.in-Some.is ∙ c.first_full.ensures ∙ ap (λ (v : Inventory). first_short (rooms_left_on v) c.stay.result.span 1) c.self.invariant.stock ∙ first_of_stock c.self.inside.house c.self.inside.log.lines c.stay.result.span 1 ordered inside ∙ ap (λ s. first_short (rooms_left_at c.self.inside.house c.self.inside.log.lines) s 1) span in
     covered_is_reply h H c.args.stay _ _ _ _ vector sum rate c.if-rate-sum.false full ∙ ap (λ (b : Diary). book_reply b.house b.history c.args.stay) c.self.view_is
 
 pub returns-in-None : goal.returns-in-None
@@ -74,5 +74,5 @@ returns-in-None c =
     let spans = c.self.invariant.house.instance.spans c.args.stay no_stay within in
     let ordered : c.stay.result.span.from < c.stay.result.span.to = omega (arith, spans.0, ap (λ (s : Span). s.from) span, ap (λ (s : Span). s.to) span) in
     let inside : c.stay.result.span.to ≤ length c.self.inside.house.rooms = omega (arith, spans.1, ap (λ (s : Span). s.to) span) in
-    let full = sym c.in-None.is ∙ c.first_full.ensures ∙ ap (λ (v : Inventory). first_short (left_on v) c.stay.result.span 1) c.self.invariant.stock ∙ first_of_stock c.self.inside.house c.self.inside.log.lines c.stay.result.span 1 ordered inside ∙ ap (λ s. first_short (left_at c.self.inside.house c.self.inside.log.lines) s 1) span in
+    let full = sym c.in-None.is ∙ c.first_full.ensures ∙ ap (λ (v : Inventory). first_short (rooms_left_on v) c.stay.result.span 1) c.self.invariant.stock ∙ first_of_stock c.self.inside.house c.self.inside.log.lines c.stay.result.span 1 ordered inside ∙ ap (λ s. first_short (rooms_left_at c.self.inside.house c.self.inside.log.lines) s 1) span in
     covered_is_reply h H c.args.stay _ _ _ _ vector sum rate c.if-rate-sum.false full ∙ ap (λ (b : Diary). book_reply b.house b.history c.args.stay) c.self.view_is

@@ -14,10 +14,10 @@ use Rattle.bp_core.specs.declared.line.Line.{Line}
 use Rattle.bp_core.specs.Acting.{Diary, MayDo, plain_line}
 use Rattle.bp_core.specs.Held.{IsHeld}
 use Rattle.bp_core.specs.Changes.{span_booked}
-use Rattle.bp_core.specs.Log.{Logged}
+use Rattle.bp_core.specs.Log.{LogView}
 use Rattle.bp_core.proofs.Counts.{has_room}
 use Rattle.bp_core.proofs.Answering.{pushed, command_is_logged}
-use Rattle.bp_core.proofs.KeptMore.{kept_more}
+use Rattle.bp_core.proofs.InStepMore.{in_step_more}
 use Rattle.bp_core.proofs.Resizing.{nights_of_stock}
 use Rattle.bp_core.proofs.Stocking.{sold_of_stock}
 use Rattle.bp_core.proofs.Bookings.{act_is_small}
@@ -100,7 +100,7 @@ invariant_of-self c =
     let units = ap (λ (l : Limits). l.unit) c.limits-units.ensures.value in
     let log = c.logged.ensures.log ∙ ap (λ s. pushed c.self.inside.log x (Rooms s true c.limits-units.result.unit ∷ [])) (span ∙ held_span c.self.inside.house c.self.inside.log.lines c.args.caller c.args.nth c.args.stay held) ∙ ap (λ u. pushed c.self.inside.log x (Rooms (span_booked c.self.inside.house c.self.inside.log.lines c.args.caller c.args.nth) true u ∷ [])) units in
     let stock = c.release.ensures ∙ ap (λ s. released c.self.inside.ledger s 1) span in
-    rw c.set_booking.ensures (kept_more _ _ _ _ _ _ _ _ _ _ _ _ c.self.invariant (cancel_is_legal _ _ c.args.caller c.args.nth _ c.self.invariant.legal may.caller_may may.in_range may.not_full (held_reply c.self.inside.log.lines c.args.caller c.args.nth c.args.stay held)) log (give_up_follows _ _ _ _ _ _ _ c.args.caller c.args.nth c.args.stay _ c.self.invariant small from_one held refl refl stock))
+    rw c.set_booking.ensures (in_step_more _ _ _ _ _ _ _ _ _ _ _ _ c.self.invariant (cancel_is_legal _ _ c.args.caller c.args.nth _ c.self.invariant.legal may.caller_may may.in_range may.not_full (held_reply c.self.inside.log.lines c.args.caller c.args.nth c.args.stay held)) log (give_up_follows _ _ _ _ _ _ _ c.args.caller c.args.nth c.args.stay _ c.self.invariant small from_one held refl refl stock))
 
 pub returns : goal.returns
 returns c =
@@ -108,4 +108,4 @@ returns c =
     let small = act_is_small c.self.inside.house c.self.inside.log.lines c.args.caller c.self.invariant.legal may.caller_may in
     let from_one : 1 ≤ c.args.nth = leb-true _ _ (and_parts _ _ may.in_range).0 in
     let held = let P : Diary → Type 0 = λ b. IsHeld b.history c.args.caller c.args.nth c.args.stay in subst P (sym c.self.view_is) c.requires.held in
-    command_is_logged _ _ _ _ _ _ _ _ _ c.self.view_is c.logged.ensures.answer (held_reply c.self.inside.log.lines c.args.caller c.args.nth c.args.stay held) (ap (λ (l : Logged). l.lines) c.logged.ensures.log)
+    command_is_logged _ _ _ _ _ _ _ _ _ c.self.view_is c.logged.ensures.answer (held_reply c.self.inside.log.lines c.args.caller c.args.nth c.args.stay held) (ap (λ (l : LogView). l.lines) c.logged.ensures.log)

@@ -3,7 +3,7 @@ use Rattle.bp_core.specs.declared.line.Act.TheVariants.{Leave}
 use Rattle.bp_core.specs.Acting.{Diary}
 use Rattle.bp_core.specs.Callers.{may_log}
 use Rattle.bp_core.proofs.Counts.{has_room}
-use Rattle.bp_core.proofs.KeptMore.{kept_more}
+use Rattle.bp_core.proofs.InStepMore.{in_step_more}
 use Rattle.bp_core.proofs.Enrolling.{leave_is_legal, leave_follows, leave_is_small}
 use Rattle.bp_core.proofs.book.Book.leave.Goals as goal
 
@@ -19,4 +19,4 @@ invariant_of-self c =
     let P : Diary → Type 0 = λ b. IsTrue (may_log b.history c.args.caller Leave) in
     let may = subst P (sym c.self.view_is) c.requires.caller_may in
     let small = leave_is_small _ _ _ c.self.invariant.legal may in
-    rw c.set_standing.ensures (kept_more _ _ _ _ _ _ _ _ _ _ _ _ c.self.invariant (leave_is_legal _ _ c.args.caller c.self.invariant.legal may) c.logged.ensures.log (leave_follows _ _ _ _ _ _ c.args.caller c.self.invariant small may))
+    rw c.set_standing.ensures (in_step_more _ _ _ _ _ _ _ _ _ _ _ _ c.self.invariant (leave_is_legal _ _ c.args.caller c.self.invariant.legal may) c.logged.ensures.log (leave_follows _ _ _ _ _ _ c.args.caller c.self.invariant small may))

@@ -7,7 +7,7 @@ use Rattle.bp_core.specs.Acting.{Diary, MayCall}
 use Rattle.bp_core.specs.Lines.{vectors, last_position}
 use Rattle.bp_core.specs.Changes.{changes_between}
 use Rattle.bp_core.proofs.Counts.{has_room}
-use Rattle.bp_core.proofs.KeptMore.{kept_more}
+use Rattle.bp_core.proofs.InStepMore.{in_step_more}
 use Rattle.bp_core.proofs.Publishing.{publish_is_legal, publish_follows, vectors_left}
 use Rattle.bp_core.proofs.book.Book.publish.Goals as goal
 
@@ -29,4 +29,4 @@ invariant_of-self c =
     let until : c.position.result ≡ (arc_value c.args.board).position = c.position.ensures.value ∙ ap (λ (b : Posted). b.position) c.deref.ensures in
     let changes = c.changes_up_to-changes.ensures ∙ ap (λ (b : Diary). changes_between b.history c.position-position.result c.position.result) (sym c.self.view_is) ∙ ap (λ n. changes_between H n c.position.result) from ∙ ap (changes_between H (last_position H)) until in
     let newer : 1 ≤ changes_between c.self.inside.log.lines (last_position c.self.inside.log.lines) (arc_value c.args.board).position = omega (arith, changes, c.if-changes-least.false, may.is_right.2) in
-    kept_more _ _ _ _ _ _ _ _ _ _ _ _ c.self.invariant (publish_is_legal _ _ c.args.caller (arc_value c.args.board) c.self.invariant.legal may.caller_may may.is_right.0 may.is_right.1 newer not_full) c.post-number.ensures.posted (publish_follows _ _ _ _ _ _ c.args.caller (arc_value c.args.board) c.self.invariant)
+    in_step_more _ _ _ _ _ _ _ _ _ _ _ _ c.self.invariant (publish_is_legal _ _ c.args.caller (arc_value c.args.board) c.self.invariant.legal may.caller_may may.is_right.0 may.is_right.1 newer not_full) c.post-number.ensures.posted (publish_follows _ _ _ _ _ _ c.args.caller (arc_value c.args.board) c.self.invariant)

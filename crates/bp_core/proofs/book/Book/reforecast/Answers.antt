@@ -5,7 +5,7 @@ use Rattle.bp_types.specs.declared.command.Command.TheVariants.{Reforecast}
 use Rattle.bp_core.specs.Acting.{Diary, MayDo}
 use Rattle.bp_core.specs.Instance.{forecast_of}
 use Rattle.bp_core.proofs.Counts.{has_room}
-use Rattle.bp_core.proofs.KeptMore.{kept_more}
+use Rattle.bp_core.proofs.InStepMore.{in_step_more}
 use Rattle.bp_core.proofs.Setting.{reforecast_is_legal, reforecast_follows}
 use Rattle.bp_core.proofs.book.Book.reforecast.Goals as goal
 
@@ -23,4 +23,4 @@ pub invariant_of-self : goal.invariant_of-self
 invariant_of-self c =
     let may = let P : Diary → Type 0 = λ b. MayDo b c.args.caller (Reforecast c.args.stay c.args.count) in subst P (sym c.self.view_is) c.requires in
     let within : c.args.stay < length c.self.inside.house.stays = ltb-true _ _ (and_parts _ _ may.in_range).0 in
-    kept_more _ _ _ _ _ _ _ _ _ _ _ _ c.self.invariant (reforecast_is_legal _ _ c.args.caller c.args.stay c.args.count c.self.invariant.legal may.caller_may may.in_range may.not_full) c.logged.ensures.log (reforecast_follows _ _ _ _ _ _ c.args.caller c.args.stay c.args.count c.self.invariant within)
+    in_step_more _ _ _ _ _ _ _ _ _ _ _ _ c.self.invariant (reforecast_is_legal _ _ c.args.caller c.args.stay c.args.count c.self.invariant.legal may.caller_may may.in_range may.not_full) c.logged.ensures.log (reforecast_follows _ _ _ _ _ _ c.args.caller c.args.stay c.args.count c.self.invariant within)

@@ -10,9 +10,9 @@ use Rattle.bp_core.specs.declared.line.Act.TheVariants.{Do}
 use Rattle.bp_core.specs.declared.line.Reply.TheVariants.{Done}
 use Rattle.bp_core.specs.declared.line.Line.{Line}
 use Rattle.bp_core.specs.Changes.{resize_delta}
-use Rattle.bp_core.specs.Log.{Logged}
+use Rattle.bp_core.specs.Log.{LogView}
 use Rattle.bp_core.proofs.Counts.{has_room}
-use Rattle.bp_core.proofs.KeptMore.{kept_more}
+use Rattle.bp_core.proofs.InStepMore.{in_step_more}
 use Rattle.bp_core.proofs.Answering.{command_is_logged, pushed}
 use Rattle.bp_core.proofs.Resizing.{resize_is_legal, below_sold_reply, done_reply, below_sold_follows, resized_follows, nights_of_stock, above_sold}
 use Rattle.bp_core.proofs.Stocking.{sold_of_stock, rooms_of_stock}
@@ -52,7 +52,7 @@ invariant_of-self c =
     let sold = ap (λ (v : Inventory). slice_index v.sold c.args.night) c.self.invariant.stock ∙ sold_of_stock c.self.inside.house c.self.inside.log.lines c.args.night within in
     let is = c.in-Err.ensures.sold ∙ sold in
     let below : c.args.rooms < c.in-Err.below.sold = omega (arith, c.in-Err.ensures.sold, c.in-Err.ensures.below_sold.0 refl) in
-    rw c.in-Err.ensures.unchanged (kept_more _ _ _ _ _ _ _ _ _ _ _ _ c.self.invariant (resize_is_legal _ _ c.args.caller c.args.night c.args.rooms _ c.self.invariant.legal may.caller_may may.in_range may.not_full (below_sold_reply c.self.inside.house c.self.inside.log.lines c.args.night c.args.rooms _ is below)) c.logged.ensures.log (below_sold_follows _ _ _ _ _ _ c.args.caller c.args.night c.args.rooms c.in-Err.below.sold c.self.invariant))
+    rw c.in-Err.ensures.unchanged (in_step_more _ _ _ _ _ _ _ _ _ _ _ _ c.self.invariant (resize_is_legal _ _ c.args.caller c.args.night c.args.rooms _ c.self.invariant.legal may.caller_may may.in_range may.not_full (below_sold_reply c.self.inside.house c.self.inside.log.lines c.args.night c.args.rooms _ is below)) c.logged.ensures.log (below_sold_follows _ _ _ _ _ _ c.args.caller c.args.night c.args.rooms c.in-Err.below.sold c.self.invariant))
 
 pub returns-in-Err : goal.returns-in-Err
 returns-in-Err c =
@@ -61,7 +61,7 @@ returns-in-Err c =
     let sold = ap (λ (v : Inventory). slice_index v.sold c.args.night) c.self.invariant.stock ∙ sold_of_stock c.self.inside.house c.self.inside.log.lines c.args.night within in
     let is = c.in-Err.ensures.sold ∙ sold in
     let below : c.args.rooms < c.in-Err.below.sold = omega (arith, c.in-Err.ensures.sold, c.in-Err.ensures.below_sold.0 refl) in
-    command_is_logged _ _ _ _ _ _ _ _ _ c.self.view_is c.logged.ensures.answer (below_sold_reply c.self.inside.house c.self.inside.log.lines c.args.night c.args.rooms _ is below) (ap (λ (l : Logged). l.lines) c.logged.ensures.log)
+    command_is_logged _ _ _ _ _ _ _ _ _ c.self.view_is c.logged.ensures.answer (below_sold_reply c.self.inside.house c.self.inside.log.lines c.args.night c.args.rooms _ is below) (ap (λ (l : LogView). l.lines) c.logged.ensures.log)
 
 pub invariant_of-self-in-Ok : goal.invariant_of-self-in-Ok
 invariant_of-self-in-Ok c =
@@ -74,7 +74,7 @@ invariant_of-self-in-Ok c =
     let delta = c.resize_delta-delta.ensures ∙ ap (λ u. resize_delta u c.args.night c.rooms-old.result c.args.rooms) unit ∙ ap (λ o. resize_delta c.self.inside.house.limits.unit c.args.night o c.args.rooms) old in
     let x : Line = plain_line c.args.caller (Do (Resize c.args.night c.args.rooms)) Done in
     let log = c.logged-in-Ok.ensures.log ∙ ap (λ (d : Change). pushed c.self.inside.log x (d ∷ [])) delta in
-    kept_more _ _ _ _ _ _ _ _ _ _ _ _ c.self.invariant (resize_is_legal _ _ c.args.caller c.args.night c.args.rooms _ c.self.invariant.legal may.caller_may may.in_range may.not_full (done_reply c.self.inside.house c.self.inside.log.lines c.args.night c.args.rooms above)) log (resized_follows _ _ _ _ _ _ _ c.args.caller c.args.night c.args.rooms c.self.invariant within c.in-Ok.ensures.resized)
+    in_step_more _ _ _ _ _ _ _ _ _ _ _ _ c.self.invariant (resize_is_legal _ _ c.args.caller c.args.night c.args.rooms _ c.self.invariant.legal may.caller_may may.in_range may.not_full (done_reply c.self.inside.house c.self.inside.log.lines c.args.night c.args.rooms above)) log (resized_follows _ _ _ _ _ _ _ c.args.caller c.args.night c.args.rooms c.self.invariant within c.in-Ok.ensures.resized)
 
 pub returns-in-Ok : goal.returns-in-Ok
 returns-in-Ok c =
@@ -82,4 +82,4 @@ returns-in-Ok c =
     let within : c.args.night < length c.self.inside.house.rooms = ltb-true _ _ (and_parts _ _ may.in_range).0 in
     let sold = ap (λ (v : Inventory). slice_index v.sold c.args.night) c.self.invariant.stock ∙ sold_of_stock c.self.inside.house c.self.inside.log.lines c.args.night within in
     let above : sold_at c.self.inside.house c.self.inside.log.lines c.args.night ≤ c.args.rooms = omega (arith, sold, above_sold _ _ c.in-Ok.ensures.below_sold.1) in
-    command_is_logged _ _ _ _ _ _ _ _ _ c.self.view_is c.logged-in-Ok.ensures.answer (done_reply c.self.inside.house c.self.inside.log.lines c.args.night c.args.rooms above) (ap (λ (l : Logged). l.lines) c.logged-in-Ok.ensures.log)
+    command_is_logged _ _ _ _ _ _ _ _ _ c.self.view_is c.logged-in-Ok.ensures.answer (done_reply c.self.inside.house c.self.inside.log.lines c.args.night c.args.rooms above) (ap (λ (l : LogView). l.lines) c.logged-in-Ok.ensures.log)

@@ -7,7 +7,7 @@ use Rattle.bp_core.specs.declared.line.Reply.TheVariants.{Vector}
 use Rattle.bp_core.specs.declared.line.Entry.{Entry}
 use Rattle.bp_core.specs.Lines.{History, vectors}
 use Rattle.bp_core.specs.Deltas.{delta_list}
-use Rattle.bp_core.specs.Log.{Logged, lines_of, changes_in, published_line}
+use Rattle.bp_core.specs.Log.{LogView, lines_of, changes_in, published_line}
 use Rattle.bp_core.proofs.LogLemmas.{length-lines_of, vectors-lines_of, counts-length, count_read, lines_of-push_board, log_more_board}
 use Rattle.bp_core.proofs.log.Log.post.Goals as goal
 
@@ -17,16 +17,16 @@ index-changes-requires c =
 
 pub push_reserved-requires : goal.push_reserved-requires
 push_reserved-requires c =
-    omega (arith, c.self.inside.entries.ok.0, length-lines_of c.self.inside.entries.items (map arc_value c.self.inside.boards.items), ap (λ (l : Logged). length l.lines) c.self.view_is, ap (λ (l : Logged). l.line_room) c.self.view_is, c.requires.room)
+    omega (arith, c.self.inside.entries.ok.0, length-lines_of c.self.inside.entries.items (map arc_value c.self.inside.boards.items), ap (λ (l : LogView). length l.lines) c.self.view_is, ap (λ (l : LogView). l.line_room) c.self.view_is, c.requires.room)
 
 pub push_reserved-requires-2 : goal.push_reserved-requires-2
 push_reserved-requires-2 c =
     let each : length (map arc_value c.self.inside.boards.items) ≡ length c.self.inside.boards.items = length-map _ _ in
-    omega (arith, c.self.inside.boards.ok.0, each, c.self.invariant.0.as_many, ap (λ (l : Logged). vectors l.lines) c.self.view_is, ap (λ (l : Logged). l.board_room) c.self.view_is, c.requires.board_room)
+    omega (arith, c.self.inside.boards.ok.0, each, c.self.invariant.0.as_many, ap (λ (l : LogView). vectors l.lines) c.self.view_is, ap (λ (l : LogView). l.board_room) c.self.view_is, c.requires.board_room)
 
 pub push_reserved-requires-4 : goal.push_reserved-requires-4
 push_reserved-requires-4 c =
-    omega (arith, c.self.inside.counts.ok.0, counts-length _ _ _ _ _ c.self.invariant.0, c.self.invariant.2, length-lines_of c.self.inside.entries.items (map arc_value c.self.inside.boards.items), ap (λ (l : Logged). length l.lines) c.self.view_is, ap (λ (l : Logged). l.line_room) c.self.view_is, c.requires.room)
+    omega (arith, c.self.inside.counts.ok.0, counts-length _ _ _ _ _ c.self.invariant.0, c.self.invariant.2, length-lines_of c.self.inside.entries.items (map arc_value c.self.inside.boards.items), ap (λ (l : LogView). length l.lines) c.self.view_is, ap (λ (l : LogView). l.line_room) c.self.view_is, c.requires.room)
 
 pub invariant_of-self : goal.invariant_of-self
 invariant_of-self c =
@@ -49,5 +49,5 @@ returns-clause-posted c =
     let pushed = lines_of-push_board es bs e (arc_value c.args.board) refl (c.self.invariant.0.as_many ∙ vectors-lines_of es bs) in
     let position : c.position-position.result ≡ (arc_value c.args.board).position = c.position-position.ensures.value ∙ ap (λ (b : Posted). b.position) c.deref.ensures in
     let number : c.len-number.result ≡ vectors (lines_of es bs) = c.len-number.ensures ∙ c.self.inside.boards.ok.0 ∙ sym (length-map _ _) ∙ c.self.invariant.0.as_many in
-    let before = ap (λ (l : Logged). record { lines = l.lines ++ published_line c.args.caller (arc_value c.args.board) (vectors l.lines) ∷ []; deltas = l.deltas ++ [] ∷ []; line_room = l.line_room; board_room = l.board_room }) c.self.view_is in
+    let before = ap (λ (l : LogView). record { lines = l.lines ++ published_line c.args.caller (arc_value c.args.board) (vectors l.lines) ∷ []; deltas = l.deltas ++ [] ∷ []; line_room = l.line_room; board_room = l.board_room }) c.self.view_is in
     rw (c.push_reserved.ensures.items, c.push_reserved-2.ensures.items, c.push_reserved-3.ensures.items, c.push_reserved.ensures.capacity, c.push_reserved-2.ensures.capacity, map-append, map-append, pushed, position, number) before

@@ -6,7 +6,7 @@ use Rattle.bp_core.specs.declared.line.Line.{Line}
 use Rattle.bp_core.specs.Lines.{History, is_command}
 use Rattle.bp_core.specs.Changes.{is_change}
 use Rattle.bp_core.specs.Deltas.{delta_list}
-use Rattle.bp_core.specs.Log.{Logged, lines_of, changes_in, publishes}
+use Rattle.bp_core.specs.Log.{LogView, lines_of, changes_in, publishes}
 use Rattle.bp_core.proofs.LogLemmas.{length-lines_of, counts-length, count_read, changes_in-le, lines_of-push_plain, log_more_plain}
 use Rattle.bp_core.proofs.log.Log.push.Goals as goal
 
@@ -33,11 +33,11 @@ overflow_add-changes c =
 
 pub push_reserved-requires : goal.push_reserved-requires
 push_reserved-requires c =
-    omega (arith, c.self.inside.entries.ok.0, length-lines_of c.self.inside.entries.items (map arc_value c.self.inside.boards.items), ap (λ (l : Logged). length l.lines) c.self.view_is, ap (λ (l : Logged). l.line_room) c.self.view_is, c.requires.room)
+    omega (arith, c.self.inside.entries.ok.0, length-lines_of c.self.inside.entries.items (map arc_value c.self.inside.boards.items), ap (λ (l : LogView). length l.lines) c.self.view_is, ap (λ (l : LogView). l.line_room) c.self.view_is, c.requires.room)
 
 pub push_reserved-requires-3 : goal.push_reserved-requires-3
 push_reserved-requires-3 c =
-    omega (arith, c.self.inside.counts.ok.0, counts-length _ _ _ _ _ c.self.invariant.0, c.self.invariant.2, length-lines_of c.self.inside.entries.items (map arc_value c.self.inside.boards.items), ap (λ (l : Logged). length l.lines) c.self.view_is, ap (λ (l : Logged). l.line_room) c.self.view_is, c.requires.room)
+    omega (arith, c.self.inside.counts.ok.0, counts-length _ _ _ _ _ c.self.invariant.0, c.self.invariant.2, length-lines_of c.self.inside.entries.items (map arc_value c.self.inside.boards.items), ap (λ (l : LogView). length l.lines) c.self.view_is, ap (λ (l : LogView). l.line_room) c.self.view_is, c.requires.room)
 
 pub invariant_of-self : goal.invariant_of-self
 invariant_of-self c =
@@ -59,5 +59,5 @@ returns c =
     let x : Line = record { entry = c.args.entry; certificate = None } in
     let silent : publishes c.args.entry ≡ false = ap (λ (o : Option ℕ). is_some o) c.requires.plain in
     let pushed = lines_of-push_plain es bs c.args.entry silent in
-    let before = ap (λ (l : Logged). record { lines = l.lines ++ x ∷ []; deltas = l.deltas ++ delta_list c.args.deltas ∷ []; line_room = l.line_room; board_room = l.board_room }) c.self.view_is in
+    let before = ap (λ (l : LogView). record { lines = l.lines ++ x ∷ []; deltas = l.deltas ++ delta_list c.args.deltas ∷ []; line_room = l.line_room; board_room = l.board_room }) c.self.view_is in
     rw (c.push_reserved.ensures.items, c.push_reserved-2.ensures.items, c.push_reserved.ensures.capacity, map-append, pushed) before

@@ -14,9 +14,9 @@ use Rattle.bp_core.specs.Callers.{has_enrolled, has_left}
 use Rattle.bp_core.specs.Instance.{forecast_of, rate_of}
 use Rattle.bp_core.specs.Changes.{deltas_at, deltas_of}
 use Rattle.bp_core.specs.Legal.{IsLegal, IsLegalLine}
-use Rattle.bp_core.specs.Log.{Logged}
-use Rattle.bp_core.specs.Roll.{Kept, standing_of, bookings_of}
-use Rattle.bp_core.specs.Keeping.{IsKept, numbers, inventory_of, standing_by, AreBookingsOf}
+use Rattle.bp_core.specs.Log.{LogView}
+use Rattle.bp_core.specs.Roll.{RollView, standing_of, bookings_of}
+use Rattle.bp_core.specs.Keeping.{AreInStep, numbers, inventory_of, standing_by, AreBookingsOf}
 use Rattle.bp_core.proofs.Pushes.{length-push, line_at-old, line_at-new}
 
 -- a legal history, with a line more that may stand after it
@@ -52,7 +52,7 @@ fed_more h H x feed fed =
     ap (λ l. l ++ deltas_of h H x ∷ []) (fed ∙ old) ∙ ap (λ d. map (deltas_at h (H ++ x ∷ [])) (numbers (length H)) ++ d ∷ []) (sym (deltas_at-new h H x)) ∙ sym more ∙ ap (λ n. map (deltas_at h (H ++ x ∷ [])) (numbers n)) (sym (length-push H x))
 
 -- the parts that follow a line
-pub record Follows (h : Inn) (H : History) (roll roll' : Kept) (inventory' : Inventory) (forecasts' rates' : List ℕ) (x : Line) : Type 0 where
+pub record Follows (h : Inn) (H : History) (roll roll' : RollView) (inventory' : Inventory) (forecasts' rates' : List ℕ) (x : Line) : Type 0 where
   pub roll_room : roll'.room ≡ roll.room
   pub each_standing : length roll'.standings ≡ CALLERS
   pub each_caller : length roll'.bookings ≡ CALLERS
@@ -62,14 +62,14 @@ pub record Follows (h : Inn) (H : History) (roll roll' : Kept) (inventory' : Inv
   pub forecasts_are : forecasts' ≡ map (forecast_of h (H ++ x ∷ [])) (numbers (length h.stays))
   pub rates_are : rates' ≡ map (rate_of h (H ++ x ∷ [])) (numbers (length h.stays))
 
-pub kept_more : (h : Inn) (log log' : Logged) (roll roll' : Kept) (inventory inventory' : Inventory) (forecasts forecasts' rates rates' : List ℕ) (x : Line) →
-    IsKept h log roll inventory forecasts rates → IsLegalLine h log.lines x →
+pub in_step_more : (h : Inn) (log log' : LogView) (roll roll' : RollView) (inventory inventory' : Inventory) (forecasts forecasts' rates rates' : List ℕ) (x : Line) →
+    AreInStep h log roll inventory forecasts rates → IsLegalLine h log.lines x →
     log' ≡ record { lines = log.lines ++ x ∷ []; deltas = log.deltas ++ deltas_of h log.lines x ∷ []; line_room = log.line_room; board_room = log.board_room } →
-    Follows h log.lines roll roll' inventory' forecasts' rates' x → IsKept h log' roll' inventory' forecasts' rates'
-kept_more h log log' roll roll' inventory inventory' forecasts forecasts' rates rates' x kept line logged follows =
-    let after : Logged = record { lines = log.lines ++ x ∷ []; deltas = log.deltas ++ deltas_of h log.lines x ∷ []; line_room = log.line_room; board_room = log.board_room } in
-    let P : Logged → Type 0 = λ l. IsKept h l roll' inventory' forecasts' rates' in
-    let now : IsKept h after roll' inventory' forecasts' rates' = record {
+    Follows h log.lines roll roll' inventory' forecasts' rates' x → AreInStep h log' roll' inventory' forecasts' rates'
+in_step_more h log log' roll roll' inventory inventory' forecasts forecasts' rates rates' x kept line logged follows =
+    let after : LogView = record { lines = log.lines ++ x ∷ []; deltas = log.deltas ++ deltas_of h log.lines x ∷ []; line_room = log.line_room; board_room = log.board_room } in
+    let P : LogView → Type 0 = λ l. AreInStep h l roll' inventory' forecasts' rates' in
+    let now : AreInStep h after roll' inventory' forecasts' rates' = record {
       house = kept.house;
       legal = legal_more h log.lines x kept.legal line;
       fed = fed_more h log.lines x log.deltas kept.fed;

@@ -2,3 +2,5 @@
 pub mod RequestLemmas
 -- What holds of each request that was read holds of the commands of every session.
 pub mod ScriptLemmas
+-- The stays of a demo, one after another, and the limits that they keep.
+pub mod DemoLemmas

@@ -1,7 +1,7 @@
 -- What a request tells that was read of a row: its session and its command are within their limits.
 use Rattle.std.proofs.Common.{◌≡◌, ◌∙◌, sym, ap, refl, subst, ℕ, ◌+◌, ◌≤◌, ◌<◌, Bool, true, false, cond, ◌&&◌, nat_le, nat_lt, List, [], length, get_or, Option, Some, None, Result, Ok, Err, IsTrue, arith}
 use Rattle.std.specs.Option.{ok_or}
-use Rattle.std.proofs.lemmas.Bool.{and_parts, leb-true, le-leb, lt-ltb}
+use Rattle.std.proofs.lemmas.Bool.{and_parts, leb-true, ltb-true, le-leb, lt-ltb}
 use Rattle.bp_types.specs.declared.stay.Span.{Span}
 use Rattle.bp_types.specs.declared.command.Command.{Command}
 use Rattle.bp_types.specs.declared.command.Command.TheVariants.{Book, Cancel, Reforecast, Reprice, Resize, Group}
@@ -190,3 +190,13 @@ request-session season codes before row r e =
     session_or : ℕ → Result Request TableRefusal → ℕ
     session_or s (Ok x) = x.session
     session_or s (Err x) = s
+
+-- a request is read where there is room for one more
+pub request-room : (season : Season) (codes : List (List ℕ)) (before : ℕ) (row : Record) (r : Request) → request_in season codes before row ≡ Ok r → before < MOST_ENTRIES
+request-room season codes before row r e =
+    let line = before + 2 in
+    let (session, named, one) = passed (session_in line (get_or row 0 [])) _ r e in
+    let (v, spoken, two) = passed (verb_in line (get_or row 1 [])) _ r one in
+    let (c, asked, three) = passed (command_in season codes line row v) _ r two in
+    let (u, room, is) = passed (room_in line before) (λ _. Ok (record { session = session; command = c })) r three in
+    ltb-true before MOST_ENTRIES (tested (nat_lt before MOST_ENTRIES) tt (Limit line) u room).0

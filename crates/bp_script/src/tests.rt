@@ -1,7 +1,7 @@
-use crate::{Commands, read_script};
+use crate::{Commands, generate, read_script};
 use bp_hotelfile::{Hotel, HotelError, read_hotel};
 use bp_stayfile::{Column, Stays, TableError, TableRefusal, read_stays};
-use bp_types::{Command, Span};
+use bp_types::{Command, Span, Stay};
 use std::alloc::{AllocError, Global};
 use std::process::Abort;
 use std::test::Fail;
@@ -268,5 +268,30 @@ fn two_hundred_thousand_commands_and_one_more(rt: HostRuntime) -> Result<(), Fai
     text.push_str("32,cancel,1,,,\n")?;
     let read = read_script(rt.alloc(), &hotel, stays.codes(), text.as_bytes());
     assert_eq!(rt; refusal(read), Some(TableRefusal::Limit { line: 200_002 }));
+    Ok(())
+}
+
+fn drawn(from: u32, to: u32, rate: u64, forecast: u64) -> Stay {
+    let span = Span { from, to };
+    Stay {
+        span,
+        rate,
+        forecast,
+    }
+}
+
+#[test]
+fn the_stays_that_a_seed_draws(rt: HostRuntime) -> Result<(), Fail> {
+    // By hand: the draws are 16807, 282475249, 1622650073 and 984943658.
+    let one = generate(rt.alloc(), 0, 1, 1, 1)?;
+    assert_eq!(rt; (one.nights(), one.rooms(0), one.stays()), (1, 1, 1));
+    assert_eq!(rt; one.stay(0), drawn(0, 1, 5_073, 18));
+    // By a calculation beside this program, of the greatest seed.
+    let largest = generate(rt.alloc(), 999_999_999, 400, 10_000, 4_000)?;
+    assert_eq!(rt;
+        (largest.nights(), largest.rooms(399), largest.stays()),
+        (400, 10_000, 4_000)
+    );
+    assert_eq!(rt; largest.stay(0), drawn(178, 182, 22_664, 3));
     Ok(())
 }

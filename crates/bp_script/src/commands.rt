@@ -21,10 +21,25 @@ impl Model for Commands {
 }
 
 impl Commands {
+    /// The commands of a vector.
+    pub fn new(list: Vec<Command>) -> Commands
+        ensures { result ≡ list.items }
+    {
+        Commands { list }
+    }
+
     /// The commands, the first one first.
     pub fn list(&self) -> &[Command]
         ensures { result.now ≡ self.now }
     {
         &self.list
+    }
+
+    /// The commands as a vector. It takes no memory.
+    pub fn into_list(self) -> Vec<Command>
+        ensures { result.items ≡ self }
+    {
+        let Commands { list } = self;
+        list
     }
 }

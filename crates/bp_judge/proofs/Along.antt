@@ -1,5 +1,5 @@
 -- What goes along a history goes along each longer one.
-use Rattle.std.proofs.Common.{◌≡◌, ℕ, ◌≤◌, ◌∙◌, refl, sym, subst, ap, arith, [], ◌∷◌, ◌++◌, length, Option, Some, None, MatchOption, unwrap_or, length-append}
+use Rattle.std.proofs.Common.{◌≡◌, ℕ, ◌∙◌, refl, sym, subst, ap, arith, [], ◌∷◌, ◌++◌, Option, Some, None, MatchOption, unwrap_or, length-append}
 use Rattle.std.proofs.lemmas.List.{take-append-le}
 use Rattle.bp_types.specs.House.{Inn}
 use Rattle.bp_types.specs.declared.command.Command.{Command}
@@ -9,7 +9,7 @@ use Rattle.bp_core.specs.declared.call.Answer.{Answer}
 use Rattle.bp_core.specs.declared.call.Call.TheVariants.{Do}
 use Rattle.bp_core.specs.Legal.{IsLegal}
 use Rattle.bp_core.specs.Acting.{Diary, IsAnswered, IsLogged, IsRefused, refusal, line_of}
-use Rattle.bp_core.specs.Instance.{instance_of, instance_at}
+use Rattle.bp_core.specs.Instance.{instance_of}
 use Rattle.bp_core.specs.Lines.{History, last_position, published_position}
 use Rattle.bp_core.proofs.Pushes.{last_value-push}
 use Rattle.bp_judge.specs.declared.course.Course.{Course}

@@ -1,9 +1,8 @@
 -- What a command comes to.
-use Rattle.std.proofs.Common.{◌≡◌, ℕ, ◌≤◌, ◌<◌, ◌∙◌, refl, sym, subst, ap, arith, false, true, [], length, take, drop, count_by, Option, Some, None}
+use Rattle.std.proofs.Common.{◌≡◌, ℕ, ◌≤◌, ◌∙◌, refl, sym, subst, ap, arith, false, true, [], length, take, drop, count_by, Some, None}
 use Rattle.std.proofs.lemmas.List.{take_all, drop_all}
-use Rattle.std.proofs.lemmas.Bool.{le-ltb, lt-ltb, lt-leb}
+use Rattle.std.proofs.lemmas.Bool.{le-ltb, lt-ltb}
 use Rattle.bp_types.specs.declared.stay.Span.{Span}
-use Rattle.bp_types.specs.House.{Inn}
 use Rattle.bp_types.specs.declared.command.Command.{Command}
 use Rattle.bp_types.specs.declared.command.Command.TheVariants.{Book, Cancel, Reforecast, Reprice, Resize, Group}
 use Rattle.bp_types.specs.declared.command.Quoted.{Quoted}

@@ -1,5 +1,5 @@
 -- How judging ends.
-use Rattle.std.proofs.Common.{◌≡◌, ℕ, ◌≤◌, ◌<◌, ◌∙◌, sym, subst, ap, arith, length, take, [], ◌∷◌, ◌++◌, Option, Some, None, false, slice_get, MatchOption}
+use Rattle.std.proofs.Common.{◌≡◌, ℕ, ◌<◌, ◌∙◌, sym, subst, ap, arith, length, take, [], ◌∷◌, ◌++◌, Option, Some, None, false, slice_get, MatchOption}
 use Rattle.std.proofs.lemmas.List.{take-append-le, length-append, append_assoc}
 use Rattle.std.proofs.lemmas.Option.{slice_get-get_or}
 use Rattle.std.proofs.Math.ListN.{get_or-append}
@@ -14,7 +14,7 @@ use Rattle.bp_judge.specs.declared.judgement.Cause.TheVariants.{Opening}
 use Rattle.bp_judge.specs.declared.replay.Replay.{Replay}
 use Rattle.bp_judge.specs.Replays.{IsReplay, HasRead}
 use Rattle.bp_judge.specs.Searches.{is_group, HasNoGroup}
-use Rattle.bp_judge.specs.Judging.{IsFirstCause, IsFirstIllegal, IsCauseAt}
+use Rattle.bp_judge.specs.Judging.{IsFirstCause, IsFirstIllegal}
 
 -- each line so far is legal, and the next one has a cause
 at_seam : (h : Inn) (G rest : History) (x : Line) (cause : Cause) → ((i : ℕ) → i < length G → IsLegalLine h (take i G) (line_at G i)) → IsFirstCause h G x cause → IsFirstIllegal h (G ++ x ∷ rest) (length G) cause
@@ -53,6 +53,8 @@ none_here G left rest lines x is next none =
 -- one line more was read
 pub one_more : (old new : Replay) (h : Inn) (lines left rest : History) (x : Line) → old.book.house ≡ h → lines ≡ old.book.history ++ left → left ≡ x ∷ rest → HasRead old new x None →
     IsReplay new × (new.book.house ≡ h) × (lines ≡ new.book.history ++ rest)
-one_more old new h lines left rest x house is next read =
-    (read.0, ap (λ (d : Diary). d.house) read.1 ∙ house,
-    seam old.book.history left rest lines x is next ∙ sym (append_assoc old.book.history (x ∷ []) rest) ∙ ap (λ (d : Diary). d.history ++ rest) (sym read.1))
+one_more old new h lines left rest x house is next read = (
+  read.0,
+  ap (λ (d : Diary). d.house) read.1 ∙ house,
+  seam old.book.history left rest lines x is next ∙ sym (append_assoc old.book.history (x ∷ []) rest) ∙ ap (λ (d : Diary). d.history ++ rest) (sym read.1),
+)

@@ -1,5 +1,5 @@
 -- First causes, by the rules that come before.
-use Rattle.std.proofs.Common.{◌≡◌, ◌≢◌, ℕ, ◌<◌, ◌≤◌, subst, arith, Bool, false, [], ◌∷◌, ◌++◌, length, Option, None, IsTrue, ◌&&◌, nat_lt}
+use Rattle.std.proofs.Common.{◌≡◌, ◌≢◌, ℕ, ◌<◌, ◌≤◌, arith, Bool, false, length, Option, None, IsTrue, ◌&&◌, nat_lt}
 use Rattle.std.proofs.lemmas.Bool.{or_left, lt-ltb, both_ways}
 use Rattle.bp_types.specs.House.{Inn}
 use Rattle.bp_core.specs.declared.line.Act.{Act}

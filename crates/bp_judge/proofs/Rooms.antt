@@ -1,5 +1,5 @@
 -- A group for which there are rooms finds its units.
-use Rattle.std.proofs.Common.{◌≡◌, ℕ, ◌-◌, ◌*◌, ◌<◌, ◌≤◌, ◌∙◌, sym, ap, arith, length, Some, None, slice_index, take, nat_lt}
+use Rattle.std.proofs.Common.{◌≡◌, ℕ, ◌-◌, ◌*◌, ◌<◌, ◌∙◌, sym, ap, arith, length, Some, None, slice_index, take, nat_lt}
 use Rattle.std.proofs.lemmas.List.{take_all}
 use Rattle.std.proofs.lemmas.Bool.{le-ltb, lt-ltb, and_from, le-leb}
 use Rattle.std.proofs.Math.Nat.{mul-le-mul_left}

@@ -1,5 +1,5 @@
 -- A line that publishes a vector.
-use Rattle.std.proofs.Common.{◌≡◌, ◌≢◌, ℕ, ◌≤◌, ◌<◌, ◌∙◌, refl, sym, subst, ap, arith, true, false, ◌==◌, ◌&&◌, [], ◌∷◌, ◌++◌, length, take, Option, Some, None, MatchOption, IsTrue, nat_lt, nat_le, vec_capacity}
+use Rattle.std.proofs.Common.{◌≡◌, ◌≢◌, ℕ, ◌≤◌, ◌<◌, ◌∙◌, refl, sym, subst, ap, arith, true, false, ◌==◌, ◌&&◌, [], ◌∷◌, ◌++◌, length, Option, Some, None, MatchOption, IsTrue, nat_lt, nat_le, vec_capacity}
 use Rattle.std.specs.Arc.{arc_value}
 use Rattle.std.specs.declared.sync.Arc.{Arc}
 use Rattle.std.specs.declared.alloc.Global.{Global}
@@ -21,7 +21,7 @@ use Rattle.bp_core.specs.Acting.{Diary, IsAnswered, IsLogged, IsRefused, refusal
 use Rattle.bp_core.specs.Answer.{IsReply}
 use Rattle.bp_core.specs.Callers.{may_log}
 use Rattle.bp_core.specs.Changes.{changes_between}
-use Rattle.bp_core.specs.Instance.{instance_of, instance_at}
+use Rattle.bp_core.specs.Instance.{instance_at}
 use Rattle.bp_core.specs.Legal.{IsLegal, IsCertified, opens, is_in_range, is_allowed, is_fresh, is_newer, is_opening_act}
 use Rattle.bp_core.specs.Lines.{History, is_by, vectors, last_position, published_position}
 use Rattle.bp_core.specs.Staying.{InstanceAtStart}

@@ -1,4 +1,4 @@
-use Rattle.std.proofs.Common.{◌∙◌, sym, subst, Option}
+use Rattle.std.proofs.Common.{◌∙◌, subst, Option}
 use Rattle.bp_judge.specs.declared.judgement.Cause.{Cause}
 use Rattle.bp_judge.specs.Replays.{HasRead}
 use Rattle.bp_judge.proofs.Ends.{found, none_here, one_more}

@@ -1,4 +1,4 @@
-use Rattle.std.proofs.Common.{subst, sym, Some, None}
+use Rattle.std.proofs.Common.{subst, Some, None}
 use Rattle.std.proofs.lemmas.Bool.{both_ways}
 use Rattle.bp_types.specs.declared.command.Command.TheVariants.{Group}
 use Rattle.bp_core.specs.Acting.{Diary}

@@ -1,0 +1,4 @@
+pub mod Bands
+pub mod Lengths
+pub mod Sheets
+pub mod Laws

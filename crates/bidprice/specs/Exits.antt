@@ -1,6 +1,6 @@
 -- The status that the program ends with.
 use Rattle.std.specs.Prelude.{◌≡◌, ◌⊎◌, ℕ, List}
-use Rattle.bp_run.specs.Words.{Word}
+use Rattle.bp_cli.specs.Words.{Word}
 use Rattle.bp_run.specs.Statuses.{status_number}
 use Rattle.bp_run.specs.Ends.{ServesUnseen}
 use Rattle.bp_run.specs.declared.status.Status.TheVariants.{NotPlain, NoMemory}

@@ -2,7 +2,7 @@
 #![tactic(auto)]
 
 ghost use Rattle.std.specs.Prelude.{◌≡◌, ◌⊎◌};
-ghost use Rattle.bp_run.specs.Words.{texts};
+ghost use Rattle.bp_cli.specs.Words.{texts};
 ghost use Rattle.bp_run.specs.Ends.{ServesUnseen};
 ghost use Rattle.bp_run.specs.declared.status.Status.TheVariants.{NotPlain, NoMemory};
 

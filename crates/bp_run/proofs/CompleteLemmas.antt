@@ -2,7 +2,8 @@
 use Rattle.std.proofs.Common.{◌≡◌, ◌≢◌, ◌≤◌, ◌<◌, inl, inr, ℕ, ◌+◌, refl, sym, subst, arith, List, length, Option, Some, IsSome, IsSomeAnd}
 use Rattle.std.specs.FinMap.{get}
 use Rattle.bp_edges.specs.Held.{Files}
-use Rattle.bp_run.specs.Words.{Word, Task}
+use Rattle.bp_cli.specs.Words.{Word}
+use Rattle.bp_cli.specs.Tasks.{Task}
 use Rattle.bp_run.specs.Statuses.{status_number}
 use Rattle.bp_run.specs.Stages.{Stage, Plan, done, ask, IsRead, IsReadAs, Gives, ComesAt, HoldsFiles, AreGood, IsReadOneWay, AreReadOneWay}
 use Rattle.bp_run.specs.Fetches.{Fetches, IsRefusedFor}

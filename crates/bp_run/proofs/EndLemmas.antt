@@ -4,7 +4,9 @@ use Rattle.std.proofs.Common.{◌≡◌, ◌≢◌, inl, inr, ℕ, ◌≤◌, re
 use Rattle.std.specs.Prelude.{codes}
 use Rattle.bp_cert.specs.declared.verdict.Verdict.{Verdict}
 use Rattle.bp_cert.specs.declared.verdict.Verdict.TheVariants.{WrongLength, PriceTooGreat, AboveForecast, Overfull, Gap, Misvalued, Optimal}
-use Rattle.bp_run.specs.Words.{Word, check, solve, group, IsPlain, NamesThreads, MayStartThreads}
+use Rattle.bp_cli.specs.Words.{Word}
+use Rattle.bp_cli.specs.Tasks.{check, solve, group, judge, desk, replay, report, demo, scenarios, sheet, portfolio}
+use Rattle.bp_run.specs.Landed.{AreServed, NamesThreads, MayStartThreads}
 use Rattle.bp_run.specs.Statuses.{status_number}
 use Rattle.bp_run.specs.Fetches.{Fetches}
 use Rattle.bp_run.specs.Stops.{Follows}
@@ -136,18 +138,26 @@ serves_nothing words shelf out number is same = record {
 -- a plain command is none that may start threads
 threads_apart : (first command : Word) → first ≡ command → (command ≡ codes "desk" → ⊥) → (command ≡ codes "scenarios" → ⊥) → (command ≡ codes "portfolio" → ⊥) → NamesThreads first → ⊥
 threads_apart first command is not_desk not_scenarios not_portfolio names = elim names [
-  | inl desk ↦ not_desk (sym is ∙ desk)
-  | inr (inl scenarios) ↦ not_scenarios (sym is ∙ scenarios)
-  | inr (inr portfolio) ↦ not_portfolio (sym is ∙ portfolio)
+  | inl e ↦ not_desk (sym is ∙ e)
+  | inr (inl e) ↦ not_scenarios (sym is ∙ e)
+  | inr (inr e) ↦ not_portfolio (sym is ∙ e)
 ]
 
 -- the commands that may start threads are not there yet
-pub threads_not_plain : (words : List Word) → MayStartThreads words → IsPlain words → ⊥
-threads_not_plain [] may plain = may
-threads_not_plain (first ∷ rest) may (check p c, asks) =
+pub threads_not_served : (words : List Word) → MayStartThreads words → AreServed words → ⊥
+threads_not_served [] may served = may
+threads_not_served (first ∷ rest) may (check p c, asks, landed) =
     let is : first ≡ codes "check" = cc in threads_apart first (codes "check") is (λ e. cc) (λ e. cc) (λ e. cc) may
-threads_not_plain (first ∷ rest) may (solve p, asks) =
+threads_not_served (first ∷ rest) may (solve p, asks, landed) =
     let is : first ≡ codes "solve" = cc in threads_apart first (codes "solve") is (λ e. cc) (λ e. cc) (λ e. cc) may
-threads_not_plain (first ∷ rest) may (group p from to rooms, asks) =
+threads_not_served (first ∷ rest) may (group p from to rooms, asks, landed) =
     let words = asks.words_are in
     let is : first ≡ codes "group" = cc in threads_apart first (codes "group") is (λ e. cc) (λ e. cc) (λ e. cc) may
+threads_not_served (first ∷ rest) may (judge p journal, asks, landed) = landed
+threads_not_served (first ∷ rest) may (desk names workers, asks, landed) = landed
+threads_not_served (first ∷ rest) may (replay names, asks, landed) = landed
+threads_not_served (first ∷ rest) may (report names, asks, landed) = landed
+threads_not_served (first ∷ rest) may (demo seed nights rooms stays, asks, landed) = landed
+threads_not_served (first ∷ rest) may (scenarios p changes, asks, landed) = landed
+threads_not_served (first ∷ rest) may (sheet p, asks, landed) = landed
+threads_not_served (first ∷ rest) may (portfolio list workers, asks, landed) = landed

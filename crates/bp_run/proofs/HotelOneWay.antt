@@ -2,7 +2,7 @@
 use Rattle.std.proofs.Common.{ℕ, List}
 use Rattle.bp_hotelfile.specs.Season.{Season}
 use Rattle.bp_stayfile.specs.StayList.{StayList}
-use Rattle.bp_run.specs.Words.{Word}
+use Rattle.bp_cli.specs.Words.{Word}
 use Rattle.bp_run.specs.Stages.{IsReadOneWay, AreReadOneWay}
 use Rattle.bp_run.specs.HotelFiles.{hotel_file, stays_of_hotel, forecast_of_stays, bookings_of_hotel}
 use Rattle.bp_run.specs.HotelPlan.{HotelNames, hotel_plan}

@@ -1,5 +1,3 @@
--- the words of a line
-pub mod WordLemmas
 -- how what is said of plans joins
 pub mod StageLemmas
 -- from the files of a command to the end of a call

@@ -11,7 +11,9 @@ use Rattle.bp_text.specs.Lines.{Line}
 use Rattle.bp_text.specs.Reading.{IsText}
 use Rattle.bp_text.specs.Laws.{IsReadOneWay as TextsReadOneWay}
 use Rattle.bp_cert.specs.Texts.{problem_lines, all_certificate_lines, IsProblem, IsSpeakable}
-use Rattle.bp_run.specs.Words.{Word, Task, check, solve, group}
+use Rattle.bp_cli.specs.Words.{Word}
+use Rattle.bp_cli.specs.Tasks.{Task, check, solve, group, judge, desk, replay, report, demo, scenarios, sheet, portfolio}
+use Rattle.bp_run.specs.Command.{no_command}
 use Rattle.bp_run.specs.Statuses.{status_number}
 use Rattle.bp_run.specs.Stages.{IsReadOneWay}
 use Rattle.bp_run.specs.TextFiles.{IsNoText, problem_file, certificate_file}
@@ -60,6 +62,10 @@ group_ends p span rooms (Quoted displacement before after) served is = omega ari
 group_ends p span rooms BadSpan served is = absurd (is served.0)
 group_ends p span rooms (NoRoom night) served is = absurd (short_of_none p span rooms night served is.1)
 
+-- a command that is not there
+no_sound : IsSound no_command
+no_sound = record { one_way = tt; ends = λ g own served right. absurd own }
+
 -- each command
 pub sound : AreTextsReadOneWay → (task : Task) → IsSound (command_of task)
 sound law (check p c) = record {
@@ -74,3 +80,11 @@ sound law (group p from to rooms) = record {
   one_way = (problem_one_way law p, λ v. tt);
   ends = λ g answer served right. group_ends g (span_of from to) rooms answer served right;
 }
+sound law (judge p journal) = no_sound
+sound law (desk names workers) = no_sound
+sound law (replay names) = no_sound
+sound law (report names) = no_sound
+sound law (demo seed nights rooms stays) = no_sound
+sound law (scenarios p changes) = no_sound
+sound law (sheet p) = no_sound
+sound law (portfolio list workers) = no_sound

@@ -5,7 +5,7 @@ use Rattle.bp_types.specs.Claim.{Claim}
 use Rattle.bp_cert.specs.Verdicts.{IsVerdict, SaysOptimum}
 use Rattle.bp_cert.specs.declared.verdict.Verdict.{Verdict}
 use Rattle.bp_cert.specs.declared.verdict.Verdict.TheVariants.{WrongLength, PriceTooGreat, AboveForecast, Overfull, Gap, Misvalued, Optimal}
-use Rattle.bp_run.specs.Words.{Word}
+use Rattle.bp_cli.specs.Words.{Word}
 use Rattle.bp_run.specs.Stages.{done, ask}
 use Rattle.bp_run.specs.TextFiles.{problem_file, certificate_file}
 use Rattle.bp_run.specs.Command.{Command}

@@ -1,8 +1,8 @@
 -- The commands of all tasks, and what their answers say.
 use Rattle.std.specs.Prelude.{ℕ, List}
 use Rattle.bp_cert.specs.Texts.{certificate_text}
-use Rattle.bp_run.specs.Words.{Task, check, solve, group}
-use Rattle.bp_run.specs.Command.{Command}
+use Rattle.bp_cli.specs.Tasks.{Task, check, solve, group, judge, desk, replay, report, demo, scenarios, sheet, portfolio}
+use Rattle.bp_run.specs.Command.{Command, no_command}
 use Rattle.bp_run.specs.Check.{check_command, verdict_line, verdict_status}
 use Rattle.bp_run.specs.Solve.{solve_command}
 use Rattle.bp_run.specs.Group.{group_command, group_said, group_status, span_of}
@@ -16,6 +16,14 @@ abbrev pub command_of : Task → Command
 command_of (check p c) = check_command p c
 command_of (solve p) = solve_command p
 command_of (group p from to rooms) = group_command p (span_of from to) rooms
+command_of (judge p journal) = no_command
+command_of (desk names workers) = no_command
+command_of (replay names) = no_command
+command_of (report names) = no_command
+command_of (demo seed nights rooms stays) = no_command
+command_of (scenarios p changes) = no_command
+command_of (sheet p) = no_command
+command_of (portfolio list workers) = no_command
 
 -- what an answer says
 abbrev pub answer_said : Answer → List ℕ

@@ -3,7 +3,9 @@ use Rattle.std.specs.Prelude.{◌≡◌, ◌≢◌, ◌⊎◌, ℕ, ◌≤◌, L
 use Rattle.bp_edges.specs.Counts.{Rose}
 use Rattle.bp_edges.specs.Held.{Files, Fetch}
 use Rattle.bp_edges.specs.Writing.{Appended, AppendedPrefix}
-use Rattle.bp_run.specs.Words.{Word, Task, Asks, IsPlain}
+use Rattle.bp_cli.specs.Words.{Word}
+use Rattle.bp_cli.specs.Tasks.{Task, Asks}
+use Rattle.bp_run.specs.Landed.{AreServed}
 use Rattle.bp_run.specs.Statuses.{status_number}
 use Rattle.bp_run.specs.Stages.{ComesAt, HoldsFiles, AreGood}
 use Rattle.bp_run.specs.Fetches.{Fetches, Fails, IsRefusedFor}
@@ -17,7 +19,7 @@ use Rattle.bp_run.specs.declared.end.End.TheVariants.{NotPlain, Fault, Refused, 
 
 -- the cause of each end
 abbrev pub HasEnd : List Word → Fetches → End → Type 0
-HasEnd words shelf NotPlain = IsPlain words → ⊥
+HasEnd words shelf NotPlain = AreServed words → ⊥
 HasEnd words shelf (Fault file) =
     (task : Task) × Asks words task × ComesAt shelf.before.held (λ s. Fails shelf s.name) (command_of task).plan 1 file
 HasEnd words shelf (Refused file cause) =
@@ -51,10 +53,10 @@ pub record HoldsAll (words : List Word) (held : Option Files) : Type 0 where
   pub told : held ≡ Some files
   pub each : (task : Task) → Asks words task → HoldsFiles files (command_of task).plan
 
--- the words are plain, and the shelf tells that it holds every file that they come to, short enough and accepted; what
--- the files give is served
+-- the words ask for a command that is there, and the shelf tells that it holds every file that they come to, short
+-- enough and accepted; what the files give is served
 pub record IsComplete (words : List Word) (held : Option Files) : Type 0 where
-  pub plain : IsPlain words
+  pub plain : AreServed words
   pub all : Files
   pub told : held ≡ Some all
   pub each : (task : Task) → Asks words task → AreGood all (command_of task).IsServed (command_of task).plan

@@ -4,7 +4,7 @@ use Rattle.std.specs.Option.{ForSome}
 use Rattle.std.specs.FinMap.{get}
 use Rattle.bp_edges.specs.Counts.{Rose}
 use Rattle.bp_edges.specs.Held.{Files, Fetch}
-use Rattle.bp_run.specs.Words.{Word}
+use Rattle.bp_cli.specs.Words.{Word}
 use Rattle.bp_run.specs.Stages.{Stage, IsRead}
 use Rattle.bp_run.specs.declared.end.Cause.{Cause}
 use Rattle.bp_run.specs.declared.end.Cause.TheVariants.{TooLong, Reader}

@@ -7,7 +7,7 @@ use Rattle.bp_types.specs.Spans.{IsSpanWithin, first_short}
 use Rattle.bp_types.specs.Changes.{HasUnits}
 use Rattle.bp_types.specs.Displacement.{IsDisplacement, without}
 use Rattle.bp_cert.specs.Texts.{certificate_text}
-use Rattle.bp_run.specs.Words.{Word}
+use Rattle.bp_cli.specs.Words.{Word}
 use Rattle.bp_run.specs.Stages.{one}
 use Rattle.bp_run.specs.TextFiles.{problem_file}
 use Rattle.bp_run.specs.Command.{Command}

@@ -1,12 +1,13 @@
 -- The files of a hotel: the hotel file, and the tables that rest on it.
 use Rattle.std.specs.Prelude.{◌≡◌, ℕ, List, Ok, Err}
+use Rattle.bp_types.specs.declared.limits.TheConstants.{MOST_FILE_BYTES}
 use Rattle.bp_hotelfile.specs.Season.{Season, season_of}
 use Rattle.bp_stayfile.specs.StayList.{StayList}
 use Rattle.bp_stayfile.specs.Stays.{stays_file}
 use Rattle.bp_stayfile.specs.Forecasts.{forecast_file}
 use Rattle.bp_stayfile.specs.Bookings.{bookings_file}
-use Rattle.bp_run.specs.Words.{Word}
-use Rattle.bp_run.specs.Stages.{Stage, most_bytes}
+use Rattle.bp_cli.specs.Words.{Word}
+use Rattle.bp_run.specs.Stages.{Stage}
 use Rattle.bp_run.specs.declared.end.FileError.{FileError}
 use Rattle.bp_run.specs.declared.end.FileError.TheVariants.{Text, Hotel, Table}
 
@@ -20,7 +21,7 @@ IsNoHotel bytes (Table e) = ⊥
 abbrev pub hotel_file : Word → Stage
 hotel_file name = record {
   name = name;
-  most = most_bytes;
+  most = MOST_FILE_BYTES;
   Value = Season;
   Accepts = λ bytes season. season_of bytes ≡ Ok season;
   Refuses = IsNoHotel;
@@ -36,7 +37,7 @@ AreNoStays season bytes (Table e) = stays_file season bytes ≡ Err e
 abbrev pub stays_of_hotel : Season → Word → Stage
 stays_of_hotel season name = record {
   name = name;
-  most = most_bytes;
+  most = MOST_FILE_BYTES;
   Value = StayList;
   Accepts = λ bytes stays. stays_file season bytes ≡ Ok stays;
   Refuses = AreNoStays season;
@@ -52,7 +53,7 @@ IsNoForecast stays bytes (Table e) = forecast_file stays bytes ≡ Err e
 abbrev pub forecast_of_stays : StayList → Word → Stage
 forecast_of_stays stays name = record {
   name = name;
-  most = most_bytes;
+  most = MOST_FILE_BYTES;
   Value = StayList;
   Accepts = λ bytes now. forecast_file stays bytes ≡ Ok now;
   Refuses = IsNoForecast stays;
@@ -68,7 +69,7 @@ AreNoBookings season stays bytes (Table e) = bookings_file season.rooms stays by
 abbrev pub bookings_of_hotel : Season → StayList → Word → Stage
 bookings_of_hotel season stays name = record {
   name = name;
-  most = most_bytes;
+  most = MOST_FILE_BYTES;
   Value = List ℕ;
   Accepts = λ bytes sold. bookings_file season.rooms stays bytes ≡ Ok sold;
   Refuses = AreNoBookings season stays;

@@ -3,7 +3,7 @@ use Rattle.std.specs.Prelude.{ℕ, List}
 use Rattle.bp_types.specs.House.{Inn}
 use Rattle.bp_hotelfile.specs.Season.{Season}
 use Rattle.bp_stayfile.specs.StayList.{StayList}
-use Rattle.bp_run.specs.Words.{Word}
+use Rattle.bp_cli.specs.Words.{Word}
 use Rattle.bp_run.specs.Stages.{Plan, done, ask}
 use Rattle.bp_run.specs.HotelFiles.{hotel_file, stays_of_hotel, forecast_of_stays, bookings_of_hotel}
 use Rattle.bp_run.specs.declared.house.OpenHotel.{OpenHotel}

@@ -1,5 +1,4 @@
-pub mod Words
-pub mod Asked
+pub mod Landed
 pub mod Statuses
 pub mod Stages
 pub mod Fetches

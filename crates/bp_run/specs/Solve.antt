@@ -1,7 +1,7 @@
 -- `solve`: a certificate of a problem, with the least prices.
 use Rattle.bp_types.specs.Program.{Program}
 use Rattle.bp_types.specs.Claim.{Claim, IsLeastCertificate}
-use Rattle.bp_run.specs.Words.{Word}
+use Rattle.bp_cli.specs.Words.{Word}
 use Rattle.bp_run.specs.Stages.{one}
 use Rattle.bp_run.specs.TextFiles.{problem_file}
 use Rattle.bp_run.specs.Command.{Command}

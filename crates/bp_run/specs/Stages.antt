@@ -1,9 +1,9 @@
 -- The files of a task, one stage after another: what a file means may rest on the values of those before it.
-use Rattle.std.specs.Prelude.{◌≡◌, ◌⊎◌, ℕ, ◌+◌, ◌^◌, ◌≤◌, List, length, Option, Some, IsSome}
+use Rattle.std.specs.Prelude.{◌≡◌, ◌⊎◌, ℕ, ◌+◌, ◌≤◌, List, length, Option, Some, IsSome}
 use Rattle.std.specs.Option.{ForSome}
 use Rattle.std.specs.FinMap.{get}
 use Rattle.bp_edges.specs.Held.{Files}
-use Rattle.bp_run.specs.Words.{Word}
+use Rattle.bp_cli.specs.Words.{Word}
 use Rattle.bp_run.specs.declared.end.FileError.{FileError}
 
 -- a file that is read: its name, how many bytes it may have, which bytes are accepted and with which value, and with
@@ -14,10 +14,6 @@ pub record Stage : Type 1 where
   pub Value : Type 0
   pub Accepts : List ℕ → Value → Type 0
   pub Refuses : List ℕ → FileError → Type 0
-
--- how many bytes most files may have: 16 MiB
-abbrev pub most_bytes : ℕ
-most_bytes = 2 ^ 24
 
 -- files one after another, each from the values of those before it, and what they give together
 pub data Plan (A : Type 0) : Type 1 where

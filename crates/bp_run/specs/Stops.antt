@@ -1,7 +1,7 @@
 -- Why the files of a task give no value, and what a call says that reads them.
 use Rattle.std.specs.Prelude.{◌≡◌, ℕ, Result, Ok, Err}
 use Rattle.std.specs.Option.{ForSome}
-use Rattle.bp_run.specs.Words.{Word}
+use Rattle.bp_cli.specs.Words.{Word}
 use Rattle.bp_run.specs.Stages.{Plan, Gives, ComesAt, HoldsFiles}
 use Rattle.bp_run.specs.Fetches.{Fetches, Leaves, Fails, IsTooLong, IsRefusedFor}
 use Rattle.bp_run.specs.declared.end.Cause.TheVariants.{TooLong, Reader}

@@ -1,13 +1,14 @@
 -- The files of lines: a problem, a certificate.
 use Rattle.std.specs.Prelude.{◌≢◌, ℕ, List, Ok, Err}
+use Rattle.bp_types.specs.declared.limits.TheConstants.{MOST_FILE_BYTES}
 use Rattle.bp_types.specs.Program.{Program}
 use Rattle.bp_types.specs.Claim.{Claim}
 use Rattle.bp_text.specs.declared.text_error.TextError.TheVariants.{Memory}
 use Rattle.bp_text.specs.Lines.{Line}
 use Rattle.bp_text.specs.Reading.{IsText}
 use Rattle.bp_cert.specs.Texts.{problem_lines, all_certificate_lines, IsProblem, IsSpeakable}
-use Rattle.bp_run.specs.Words.{Word}
-use Rattle.bp_run.specs.Stages.{Stage, most_bytes}
+use Rattle.bp_cli.specs.Words.{Word}
+use Rattle.bp_run.specs.Stages.{Stage}
 use Rattle.bp_run.specs.declared.end.FileError.{FileError}
 use Rattle.bp_run.specs.declared.end.FileError.TheVariants.{Text, Hotel, Table}
 
@@ -21,7 +22,7 @@ IsNoText lines Within bytes (Table e) = ⊥
 abbrev pub problem_file : Word → Stage
 problem_file name = record {
   name = name;
-  most = most_bytes;
+  most = MOST_FILE_BYTES;
   Value = Program;
   Accepts = λ bytes p. IsText problem_lines IsProblem bytes (Ok p);
   Refuses = IsNoText problem_lines IsProblem;
@@ -31,7 +32,7 @@ problem_file name = record {
 abbrev pub certificate_file : Word → Stage
 certificate_file name = record {
   name = name;
-  most = most_bytes;
+  most = MOST_FILE_BYTES;
   Value = Claim;
   Accepts = λ bytes c. IsText all_certificate_lines IsSpeakable bytes (Ok c);
   Refuses = IsNoText all_certificate_lines IsSpeakable;

@@ -1,14 +1,15 @@
 //! The commands, one file each: its answer, and the status and the text of the answer.
-ghost use Rattle.std.specs.Prelude.{◌≡◌, IfOk};
-ghost use Rattle.bp_run.specs.Asked.{asked};
+ghost use Rattle.std.specs.Prelude.{◌≡◌, ◌↔◌, IsTrue, IfOk};
+ghost use Rattle.bp_cli.specs.Asked.{asked};
+ghost use Rattle.bp_run.specs.Landed.{HasLanded};
 ghost use Rattle.bp_run.specs.Fetches.{over};
 ghost use Rattle.bp_run.specs.Commands.{command_of, answer_status, answer_said};
 ghost use Rattle.bp_run.specs.Command.{Concludes};
 
 use crate::stop::Stop;
-use crate::task::Task;
 use crate::{Answer, Status};
 use bp_cert::text_of_certificate;
+use bp_cli::Task;
 use bp_edges::Shelf;
 use bp_types::Span;
 use std::alloc::{AllocError, Global};
@@ -17,16 +18,29 @@ pub mod check;
 pub mod group;
 pub mod solve;
 
+/// Whether the task's command is there.
+pub fn has_landed(task: &Task<'_>) -> bool
+    ensures { IsTrue result ↔ HasLanded (asked task.now) }
+{
+    matches!(
+        task,
+        Task::Check { .. } | Task::Solve { .. } | Task::Group { .. }
+    )
+}
+
 /// The answer to a task. Its files are read in their order, up to the first that gives no value.
 pub fn answer<S: Shelf>(alloc: Global, shelf: &mut S, task: &Task<'_>) -> Result<Answer, Stop>
+    requires { HasLanded (asked task.now) }
     ensures { Concludes (over S.held S.faults S.fetches S.last S.steady shelf.old shelf.new) (command_of (asked task.now)) result }
 {
     match task {
         Task::Check {
             problem,
             certificate,
-        } => Ok(Answer::Checked(check::answer(alloc, shelf, problem, certificate)?)),
-        Task::Solve { problem } => Ok(Answer::Solved(solve::answer(alloc, shelf, problem)?)),
+        } => Ok(Answer::Checked(check::answer(alloc, shelf, problem.text(), certificate.text())?)),
+        Task::Solve { problem } => {
+            Ok(Answer::Solved(solve::answer(alloc, shelf, problem.text())?))
+        }
         Task::Group {
             problem,
             from,
@@ -37,8 +51,16 @@ pub fn answer<S: Shelf>(alloc: Global, shelf: &mut S, task: &Task<'_>) -> Result
                 from: *from,
                 to: *to,
             };
-            Ok(Answer::Grouped(group::answer(alloc, shelf, problem, span, *rooms)?))
+            Ok(Answer::Grouped(group::answer(alloc, shelf, problem.text(), span, *rooms)?))
         }
+        Task::Judge { .. }
+        | Task::Desk { .. }
+        | Task::Replay { .. }
+        | Task::Report { .. }
+        | Task::Demo { .. }
+        | Task::Scenarios { .. }
+        | Task::Sheet { .. }
+        | Task::Portfolio { .. } => unreachable!(),
     }
 }
 

@@ -40,7 +40,7 @@ pub enum Answer {
 /// How a call ends where there is memory and the sink takes the text. Files count from 1, in the order of the words.
 #[derive(Debug, Drop)]
 pub enum End {
-    /// The words are no plain line.
+    /// The words are no plain line, or ask for a command that is not there yet.
     NotPlain,
     /// The shelf failed at this file.
     Fault { file: u64 },

@@ -21,9 +21,6 @@ pub mod hotel;
 pub mod problem;
 pub mod stays;
 
-/// How many bytes a file may have: 16 MiB.
-pub const MOST_BYTES: u64 = 1 << 24;
-
 /// A kind of file, with the values of earlier files that its reader stands on.
 pub trait Kind {
     type Value;

@@ -11,7 +11,7 @@ mod print;
 mod refusals;
 mod status;
 mod stop;
-mod task;
+mod threads;
 mod top;
 mod unread;
 

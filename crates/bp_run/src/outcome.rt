@@ -1,14 +1,14 @@
 //! How the words end over a shelf.
 ghost use Rattle.std.specs.Prelude.{◌≢◌, IfOk};
-ghost use Rattle.bp_run.specs.Words.{texts};
+ghost use Rattle.bp_cli.specs.Words.{texts};
 ghost use Rattle.bp_run.specs.Fetches.{over};
 ghost use Rattle.bp_run.specs.Lines.{end_status};
 ghost use Rattle.bp_run.specs.Ends.{HasEnd, HoldsAll};
 ghost use Rattle.bp_run.specs.declared.status.Status.TheVariants.{Fault};
 
 use crate::stop::Stop;
-use crate::task::task_of;
 use crate::{End, commands};
+use bp_cli::{WordsError, law, parse};
 use bp_edges::Shelf;
 use bp_types::Memory;
 use std::alloc::Global;
@@ -18,9 +18,15 @@ pub fn end_of<S: Shelf>(alloc: Global, words: &[String], shelf: &mut S) -> Resul
     ensures end { IfOk result (HasEnd (texts words.now) (over S.held S.faults S.fetches S.last S.steady shelf.old shelf.new)) }
     ensures unfailing { S.steady shelf.old → HoldsAll (texts words.now) (S.held shelf.old) → IfOk result (λ end. end_status end ≢ Fault) }
 {
-    let Some(task) = task_of(words) else {
-        return Ok(End::NotPlain);
+    law::tasks_are_unique();
+    let task = match parse(alloc, words) {
+        Ok(task) => task,
+        Err(WordsError::Usage) => return Ok(End::NotPlain),
+        Err(WordsError::Memory) => return Err(Memory),
     };
+    if !commands::has_landed(&task) {
+        return Ok(End::NotPlain);
+    }
     match commands::answer(alloc, shelf, &task) {
         Ok(answer) => Ok(End::Answered(answer)),
         Err(Stop::Memory) => Err(Memory),

@@ -9,7 +9,7 @@ pub enum Status {
     Done = 0,
     /// A certificate was checked and is not optimal.
     Wrong = 1,
-    /// The words are no plain line.
+    /// The words are no plain line, or ask for a command that is not there yet.
     NotPlain = 2,
     /// A file is refused, or the nights or rooms of a group are.
     Refused = 3,

@@ -1,13 +1,14 @@
 //! The whole program.
 ghost use Rattle.std.specs.Prelude.{◌≤◌};
-ghost use Rattle.bp_run.specs.Words.{texts, MayStartThreads};
+ghost use Rattle.bp_cli.specs.Words.{texts};
+ghost use Rattle.bp_run.specs.Landed.{MayStartThreads};
 ghost use Rattle.bp_run.specs.Fetches.{over};
 ghost use Rattle.bp_run.specs.Puts.{onto};
 ghost use Rattle.bp_run.specs.Ends.{Serves};
 
 use crate::outcome::end_of;
 use crate::print::finish;
-use crate::task::may_start_threads;
+use crate::threads::may_start_threads;
 use crate::{End, Status};
 use bp_cert::law;
 use bp_edges::{Gate, Shelf, Sink};

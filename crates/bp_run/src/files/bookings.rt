@@ -1,13 +1,14 @@
 //! The bookings file.
 ghost use Rattle.std.specs.Prelude.{◌≡◌, length, Ok};
 ghost use Rattle.bp_stayfile.specs.Bookings.{bookings_file, AreSold};
-ghost use Rattle.bp_run.specs.Stages.{most_bytes};
+ghost use Rattle.bp_types.specs.declared.limits.TheConstants.{MOST_FILE_BYTES};
 ghost use Rattle.bp_run.specs.HotelFiles.{AreNoBookings};
 
-use crate::files::{Kind, MOST_BYTES};
+use crate::files::Kind;
 use crate::unread::Unread;
 use bp_hotelfile::Hotel;
 use bp_stayfile::{Sold, Stays, law, read_bookings};
+use bp_types::limits::MOST_FILE_BYTES;
 use std::alloc::Global;
 
 /// The bookings of these stays of a hotel. The value is the rooms sold of each night.
@@ -20,7 +21,7 @@ pub struct BookingsFile<'a> {
 impl<'a> Kind for BookingsFile<'a> {
     type Value = Sold;
 
-    ghost most = { λ k. most_bytes };
+    ghost most = { λ k. MOST_FILE_BYTES };
 
     ghost needs = { λ k. k.stays.now.nights ≡ length k.hotel.now.rooms };
 
@@ -31,7 +32,7 @@ impl<'a> Kind for BookingsFile<'a> {
     ghost keeps = { λ k sold. AreSold k.hotel.now.rooms sold };
 
     fn most_bytes(&self) -> u64 {
-        MOST_BYTES
+        MOST_FILE_BYTES
     }
 
     fn read(&self, alloc: Global, bytes: &[u8]) -> Result<Sold, Unread> {

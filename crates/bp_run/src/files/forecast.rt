@@ -1,12 +1,13 @@
 //! The forecast file.
 ghost use Rattle.std.specs.Prelude.{◌≡◌, Ok};
 ghost use Rattle.bp_stayfile.specs.Forecasts.{forecast_file};
-ghost use Rattle.bp_run.specs.Stages.{most_bytes};
+ghost use Rattle.bp_types.specs.declared.limits.TheConstants.{MOST_FILE_BYTES};
 ghost use Rattle.bp_run.specs.HotelFiles.{IsNoForecast};
 
-use crate::files::{Kind, MOST_BYTES};
+use crate::files::Kind;
 use crate::unread::Unread;
 use bp_stayfile::{Stays, law, read_forecast};
+use bp_types::limits::MOST_FILE_BYTES;
 use std::alloc::Global;
 
 /// The forecasts of these stays. The value is the stays with their forecasts.
@@ -18,7 +19,7 @@ pub struct ForecastFile<'a> {
 impl<'a> Kind for ForecastFile<'a> {
     type Value = Stays;
 
-    ghost most = { λ k. most_bytes };
+    ghost most = { λ k. MOST_FILE_BYTES };
 
     ghost needs = { λ k. Unit {0} };
 
@@ -29,7 +30,7 @@ impl<'a> Kind for ForecastFile<'a> {
     ghost keeps = { λ k stays. stays.nights ≡ k.stays.now.nights };
 
     fn most_bytes(&self) -> u64 {
-        MOST_BYTES
+        MOST_FILE_BYTES
     }
 
     fn read(&self, alloc: Global, bytes: &[u8]) -> Result<Stays, Unread> {

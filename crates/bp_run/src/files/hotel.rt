@@ -1,12 +1,13 @@
 //! The hotel file.
 ghost use Rattle.std.specs.Prelude.{◌≡◌, Ok};
 ghost use Rattle.bp_hotelfile.specs.Season.{season_of};
-ghost use Rattle.bp_run.specs.Stages.{most_bytes};
+ghost use Rattle.bp_types.specs.declared.limits.TheConstants.{MOST_FILE_BYTES};
 ghost use Rattle.bp_run.specs.HotelFiles.{IsNoHotel};
 
-use crate::files::{Kind, MOST_BYTES};
+use crate::files::Kind;
 use crate::unread::Unread;
 use bp_hotelfile::{Hotel, read_hotel};
+use bp_types::limits::MOST_FILE_BYTES;
 use std::alloc::Global;
 
 /// A hotel.
@@ -16,7 +17,7 @@ pub struct HotelFile;
 impl Kind for HotelFile {
     type Value = Hotel;
 
-    ghost most = { λ k. most_bytes };
+    ghost most = { λ k. MOST_FILE_BYTES };
 
     ghost needs = { λ k. Unit {0} };
 
@@ -27,7 +28,7 @@ impl Kind for HotelFile {
     ghost keeps = { λ k season. Unit {0} };
 
     fn most_bytes(&self) -> u64 {
-        MOST_BYTES
+        MOST_FILE_BYTES
     }
 
     fn read(&self, alloc: Global, bytes: &[u8]) -> Result<Hotel, Unread> {

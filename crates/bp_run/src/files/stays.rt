@@ -1,13 +1,14 @@
 //! The stays file.
 ghost use Rattle.std.specs.Prelude.{◌≡◌, length, Ok};
 ghost use Rattle.bp_stayfile.specs.Stays.{stays_file};
-ghost use Rattle.bp_run.specs.Stages.{most_bytes};
+ghost use Rattle.bp_types.specs.declared.limits.TheConstants.{MOST_FILE_BYTES};
 ghost use Rattle.bp_run.specs.HotelFiles.{AreNoStays};
 
-use crate::files::{Kind, MOST_BYTES};
+use crate::files::Kind;
 use crate::unread::Unread;
 use bp_hotelfile::Hotel;
 use bp_stayfile::{Stays, read_stays};
+use bp_types::limits::MOST_FILE_BYTES;
 use std::alloc::Global;
 
 /// The stays of this hotel.
@@ -19,7 +20,7 @@ pub struct StaysFile<'a> {
 impl<'a> Kind for StaysFile<'a> {
     type Value = Stays;
 
-    ghost most = { λ k. most_bytes };
+    ghost most = { λ k. MOST_FILE_BYTES };
 
     ghost needs = { λ k. Unit {0} };
 
@@ -30,7 +31,7 @@ impl<'a> Kind for StaysFile<'a> {
     ghost keeps = { λ k stays. stays.nights ≡ length k.hotel.now.rooms };
 
     fn most_bytes(&self) -> u64 {
-        MOST_BYTES
+        MOST_FILE_BYTES
     }
 
     fn read(&self, alloc: Global, bytes: &[u8]) -> Result<Stays, Unread> {

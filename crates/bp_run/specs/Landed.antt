@@ -1,0 +1,31 @@
+-- The commands that are there, and those that may start threads.
+use Rattle.std.specs.Prelude.{◌≡◌, ◌⊎◌, List, [], ◌∷◌, codes}
+use Rattle.bp_cli.specs.Words.{Word}
+use Rattle.bp_cli.specs.Tasks.{Task, check, solve, group, judge, desk, replay, report, demo, scenarios, sheet, portfolio, Asks}
+
+-- the task's command is there
+abbrev pub HasLanded : Task → Type 0
+HasLanded (check problem certificate) = Unit {0}
+HasLanded (solve problem) = Unit {0}
+HasLanded (group problem from to rooms) = Unit {0}
+HasLanded (judge problem journal) = ⊥
+HasLanded (desk names workers) = ⊥
+HasLanded (replay names) = ⊥
+HasLanded (report names) = ⊥
+HasLanded (demo seed nights rooms stays) = ⊥
+HasLanded (scenarios problem changes) = ⊥
+HasLanded (sheet problem) = ⊥
+HasLanded (portfolio list workers) = ⊥
+
+-- the words ask for some task whose command is there
+abbrev pub AreServed : List Word → Type 0
+AreServed words = (task : Task) × Asks words task × HasLanded task
+
+-- the commands that may start threads
+abbrev pub NamesThreads : Word → Type 0
+NamesThreads command = (command ≡ codes "desk") ⊎ (command ≡ codes "scenarios") ⊎ (command ≡ codes "portfolio")
+
+-- the first word is one of them
+abbrev pub MayStartThreads : List Word → Type 0
+MayStartThreads [] = ⊥
+MayStartThreads (first ∷ rest) = NamesThreads first

@@ -1,0 +1,129 @@
+//! Lines of words, and what each gives over the shared files.
+
+use crate::files::CERTIFICATE;
+
+const USAGE: &str = "usage:
+bidprice check PROBLEM CERTIFICATE
+bidprice solve PROBLEM
+bidprice group PROBLEM FROM TO ROOMS
+bidprice judge PROBLEM JOURNAL
+bidprice desk HOTEL STAYS FORECAST BOOKINGS SCRIPT [--workers W]
+bidprice replay HOTEL STAYS FORECAST BOOKINGS JOURNAL
+bidprice report HOTEL STAYS FORECAST BOOKINGS JOURNAL
+bidprice demo SEED NIGHTS ROOMS STAYS
+bidprice scenarios PROBLEM CHANGES
+bidprice sheet PROBLEM
+bidprice portfolio LIST [--workers W]
+";
+
+/// A line, its status and what it writes.
+pub(crate) type Line = (&'static str, u8, &'static str);
+
+/// Lines where nothing fails.
+pub(crate) fn served() -> &'static [Line] {
+    &[
+        // Each verdict has its line.
+        ("check A C", 0, "optimal 250\n"),
+        ("check A short-sell", 1, "wronglength\n"),
+        ("check A great-price", 1, "pricetoogreat 1\n"),
+        ("check A above", 1, "aboveforecast 1\n"),
+        ("check A overfull", 1, "overfull 1 2\n"),
+        ("check A gap", 1, "gap 250 280\n"),
+        ("check A misvalued", 1, "misvalued 250\n"),
+        // Each optimum is written with its least prices.
+        ("solve A", 0, CERTIFICATE),
+        (
+            "solve full",
+            0,
+            "certificate 1\nvalue 0\nsell 0\nprices 100\nend\n",
+        ),
+        (
+            "solve empty",
+            0,
+            "certificate 1\nvalue 0\nsell\nprices 0 0 0\nend\n",
+        ),
+        (
+            "solve tie",
+            0,
+            "certificate 1\nvalue 90\nsell 1\nprices 90 0\nend\n",
+        ),
+        // A group has its displacement, or is refused.
+        (
+            "group A 1 3 1",
+            0,
+            "displacement 150\ncertificate 1\nvalue 250\nsell 0 1 1 1\nprices 0 100 40\nend\ncertificate 1\nvalue 100\nsell 0 0 1 1\nprices 0 110 40\nend\n",
+        ),
+        (
+            "group A 0 2 1",
+            0,
+            "displacement 110\ncertificate 1\nvalue 250\nsell 0 1 1 1\nprices 0 100 40\nend\ncertificate 1\nvalue 140\nsell 0 0 1 2\nprices 0 110 40\nend\n",
+        ),
+        (
+            "group A 0 1 1",
+            0,
+            "displacement 0\ncertificate 1\nvalue 250\nsell 0 1 1 1\nprices 0 100 40\nend\ncertificate 1\nvalue 250\nsell 0 1 1 1\nprices 60 40 40\nend\n",
+        ),
+        ("group A 1 2 2", 3, "noroom 1\n"),
+        ("group A 0 000000003 10000", 3, "noroom 0\n"),
+        ("group A 2 4 1", 3, "refused span\n"),
+        ("group A 2 2 1", 3, "refused span\n"),
+        ("group A 999999999 0 1", 3, "refused span\n"),
+        // The first file that is refused has its line.
+        ("solve no-end", 3, "refused 1 tooshort\n"),
+        ("solve two-problems", 3, "refused 1 trailing 6\n"),
+        ("solve later", 3, "refused 1 badline 1\n"),
+        ("solve long", 3, "refused 1 limit 2\n"),
+        ("check later zero-in-front", 3, "refused 1 badline 1\n"),
+        ("check A zero-in-front", 3, "refused 2 badline 2\n"),
+        ("check A great-value", 3, "refused 2 limit 2\n"),
+        ("check A goes-on", 3, "refused 2 trailing 6\n"),
+        // No file has the name.
+        ("check B C", 4, "fault 1\n"),
+        ("check A B", 4, "fault 2\n"),
+        ("group B 0 1 1", 4, "fault 1\n"),
+    ]
+}
+
+/// Lines that are not plain, or ask for a command that is not there yet.
+pub(crate) fn not_served() -> &'static [&'static str] {
+    &[
+        "",
+        "check A",
+        "check A C C",
+        "check -A C",
+        "check A ",
+        "Check A C",
+        "A C",
+        "--help",
+        "solve",
+        "group A 1 3",
+        "group A +1 3 1",
+        "group A 1 1234567890 1",
+        "group A 1 3 0",
+        "group A 1 3 10001",
+        "desk H S F B X --workers=2",
+        "desk H S F B X --workers 2",
+        "scenarios A",
+        "sheet A",
+        "portfolio",
+    ]
+}
+
+/// What each of those writes.
+pub(crate) fn usage() -> &'static str {
+    USAGE
+}
+
+/// Lines with the fetch and the put that fail, the status, and what is written.
+pub(crate) fn failing() -> &'static [(&'static str, u64, u64, u8, &'static str)] {
+    &[
+        ("check A C", 1, 0, 4, "fault 1\n"),
+        ("check A C", 2, 0, 4, "fault 2\n"),
+        ("solve A", 1, 0, 4, "fault 1\n"),
+        ("check A C", 0, 1, 5, ""),
+        ("check A misvalued", 0, 1, 5, ""),
+        ("check A", 0, 1, 5, ""),
+        ("check C A", 0, 1, 5, ""),
+        ("check A C", 2, 1, 5, ""),
+    ]
+}

@@ -1,0 +1,6 @@
+-- How the tallies of stays and the counts of callers grow with one place more.
+pub mod TallyLemmas
+-- The Books of a legal history: each is by one of the callers, and of a stay of the house.
+pub mod EntryLemmas
+-- Tables that are written row by row.
+pub mod RowLemmas

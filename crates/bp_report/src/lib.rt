@@ -1,0 +1,17 @@
+//! The report of a desk: a table of the nights, a table of the stays, and the value of the last vector.
+//!
+//! It is made from a book, so every number in it comes of the house and of the history that the book holds. Rooms are
+//! whole rooms, prices are in minor units of money, forecasts and the value are in units of the house.
+#![tactic(auto)]
+
+mod cells;
+mod counting;
+mod dates;
+mod nights;
+mod stays;
+mod tables;
+mod tally;
+#[cfg(test)]
+mod tests;
+
+pub use tables::report;

@@ -1,0 +1,11 @@
+pub mod Following
+pub mod Searching
+pub mod Rounds
+pub mod Quoting
+pub mod Vectors
+pub mod Acts
+pub mod Sessions
+pub mod Tries
+pub mod Works
+pub mod Stepping
+pub mod Laws

@@ -1,0 +1,8 @@
+use crate::Optimiser;
+
+fn moves<T: Send>() {}
+
+/// An optimiser moves between threads. It does nothing: that it is proved says so.
+pub fn optimiser_crosses_threads() {
+    moves::<Optimiser>();
+}

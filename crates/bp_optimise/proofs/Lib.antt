@@ -1,0 +1,11 @@
+pub mod Searches
+pub mod Leading
+pub mod Following
+pub mod Rounding
+pub mod Owning
+pub mod Doing
+pub mod Settling
+pub mod Stopping
+pub mod Ends
+pub mod Lacking
+pub mod Superseding

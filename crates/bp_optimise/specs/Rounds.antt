@@ -1,5 +1,5 @@
 -- What a round did.
-use Rattle.std.specs.Prelude.{◌≡◌, ◌<◌, ◌≤◌, ℕ, length, Option, Some, None}
+use Rattle.std.specs.Prelude.{◌≡◌, ◌<◌, ◌≤◌, ℕ, Bool, true, false, length, Option, Some, None}
 use Rattle.bp_core.specs.declared.line.Reply.TheVariants.{Vector}
 use Rattle.bp_core.specs.declared.call.Answer.{Answer}
 use Rattle.bp_core.specs.declared.call.Answer.TheVariants.{Logged, Superseded as LaterThere, PublicationsFull as NoneLeft}
@@ -34,3 +34,12 @@ answer_of (Unchanged changes) = None
 answer_of (Published number) = Some (Logged (Vector number))
 answer_of (Superseded p changes) = Some (LaterThere p changes)
 answer_of PublicationsFull = Some NoneLeft
+
+abbrev pub is_superseded : Round → Bool
+is_superseded (Superseded p changes) = true
+is_superseded _ = false
+
+-- as many vectors as there may be are published
+abbrev pub found_none_left : Round → Bool
+found_none_left PublicationsFull = true
+found_none_left _ = false

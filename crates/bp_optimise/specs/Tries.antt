@@ -1,5 +1,5 @@
 -- What becomes of a command of a session, and of one try of it.
-use Rattle.std.specs.Prelude.{◌≡◌, ◌≤◌, Bool, true, false, [], ◌∷◌, ◌++◌}
+use Rattle.std.specs.Prelude.{◌≡◌, ℕ, ◌≤◌, Bool, true, false, [], ◌∷◌, ◌++◌}
 use Rattle.bp_types.specs.declared.command.Command.{Command}
 use Rattle.bp_types.specs.declared.command.Command.TheVariants.{Book, Group}
 use Rattle.bp_core.specs.Lines.{commands, vectors, last_position}
@@ -20,7 +20,7 @@ is_plain (Group span rooms amount) = false
 is_plain _ = true
 
 -- the pass has acted, and the optimiser goes with it
-pub record Acts (least : ℕ) (old new : PassState) (o : Optimising) : Type 0 where
+pub record GoesOn (least : ℕ) (old new : PassState) (o : Optimising) : Type 0 where
   pub acted : HasActed least old new
   pub goes : GoesWith new.house new.seen o
 

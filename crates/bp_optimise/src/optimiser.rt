@@ -5,7 +5,7 @@ ghost use Rattle.bp_types.specs.Spans.{IsSpanWithin};
 ghost use Rattle.bp_flow.specs.Settled.{IsSettled};
 ghost use Rattle.bp_optimise.specs.Following.{Optimising, GoesWith, HasLooked, HasCaughtUp};
 ghost use Rattle.bp_optimise.specs.Rounds.{IsRound};
-ghost use Rattle.bp_optimise.specs.Searching.{CountsCatchingUp};
+ghost use Rattle.bp_optimise.specs.Searching.{LeadOn, CountsCatchingUp};
 ghost use Rattle.bp_optimise.specs.Quoting.{IsQuoteOf};
 
 use crate::round::{Round, round_of};
@@ -61,6 +61,13 @@ impl Optimiser {
         })
     }
 
+    /// Tells what holds of every optimiser between calls: its prices are the least ones. It does nothing.
+    pub fn facts(&self)
+        ensures { IsSettled self.now.solver }
+    {
+        let _position = self.position;
+    }
+
     /// Looks how long the history is, and catches up to there. It takes no memory.
     ///
     /// It makes as many searches as the changes on its way move units, and one more for each of these changes, at
@@ -76,7 +83,6 @@ impl Optimiser {
         requires goes { GoesWith pass.old.house pass.old.seen self.old }
         ensures goes { GoesWith pass.new.house pass.new.seen self.new }
         ensures caught_up { HasCaughtUp pass.old pass.new self.new.position }
-        ensures settled { IsSettled self.new.solver }
         ensures counted { CountsCatchingUp pass.new.house pass.new.seen steps.old steps.new self.old self.new }
     {
         let lag = desk.lag(rt, pass);
@@ -121,6 +127,7 @@ impl Optimiser {
         requires goes { GoesWith pass.old.house pass.old.seen self.old }
         ensures goes { GoesWith pass.new.house pass.new.seen self.new }
         ensures moves { (self.old.position < self.new.position) × (self.new.position ≤ until) }
+        ensures leads { LeadOn pass.old.house pass.old.seen self.old.position self.new.position }
         ensures pass { HasLooked pass.old pass.new }
         ensures counted { CountsCatchingUp pass.old.house pass.old.seen steps.old steps.new self.old self.new }
     {
@@ -151,7 +158,6 @@ impl Optimiser {
         ensures goes { GoesWith pass.new.house pass.new.seen self.new }
         ensures round { IfOk result (IsRound pass.old pass.new self.new.position least) }
         ensures refused { OnErr result (HasLooked pass.old pass.new) }
-        ensures settled { IsSettled self.new.solver }
         ensures counted { CountsCatchingUp pass.new.house pass.new.seen steps.old steps.new self.old self.new }
     {
         let lag = desk.lag(rt, pass);
@@ -179,8 +185,8 @@ impl Optimiser {
         }
     }
 
-    /// What so many rooms of so many units each on each night of a span cost at the position; nothing is quoted only
-    /// where a night lacks these units.
+    /// What a group costs as of the position: so many rooms, of so many units each, on each night of a span. There is
+    /// no quote only where a night lacks these units.
     pub(crate) fn quote_units<L: Ledger>(
         &self,
         alloc: Global,

@@ -1,6 +1,6 @@
 ghost use Rattle.std.specs.Prelude.{◌≡◌, Some};
 ghost use Rattle.bp_desk.specs.Typed.{publish_answer};
-ghost use Rattle.bp_optimise.specs.Rounds.{answer_of};
+ghost use Rattle.bp_optimise.specs.Rounds.{answer_of, is_superseded, found_none_left};
 
 use bp_desk::PublishStop;
 
@@ -15,6 +15,22 @@ pub enum Round {
     Superseded { position: u64, changes: u64 },
     /// As many vectors as the limits allow are published.
     PublicationsFull,
+}
+
+impl Round {
+    /// Whether somebody else's vector came first.
+    pub(crate) fn is_superseded(self) -> bool
+        ensures { result ≡ is_superseded self }
+    {
+        matches!(self, Round::Superseded { .. })
+    }
+
+    /// Whether as many vectors as the limits allow are published.
+    pub(crate) fn found_none_left(self) -> bool
+        ensures { result ≡ found_none_left self }
+    {
+        matches!(self, Round::PublicationsFull)
+    }
 }
 
 /// The round whose board was answered so.

@@ -5,10 +5,9 @@ ghost use Rattle.bp_core.specs.Legal.{is_command_in_range};
 ghost use Rattle.bp_optimise.specs.Following.{GoesWith};
 ghost use Rattle.bp_optimise.specs.Acts.{HasActed, commands_in};
 ghost use Rattle.bp_optimise.specs.Sessions.{AreInRange, IsStop, IsSession};
-ghost use Rattle.bp_optimise.specs.Tries.{is_plain, Acts, HasAllVectors, IsOutcome, IsAttempt};
+ghost use Rattle.bp_optimise.specs.Tries.{is_plain, GoesOn, HasAllVectors, IsOutcome, IsAttempt};
 
 use crate::optimiser::Optimiser;
-use crate::round::Round;
 use crate::tries::{Attempt, Outcome};
 use bp_core::Answer;
 use bp_desk::{BookStop, Desk, GroupStop, Left, Pass};
@@ -148,7 +147,7 @@ fn make_one<R: Wait, L: Ledger>(
     requires goes { GoesWith pass.old.house pass.old.seen optimiser.old }
     requires lead { 1 ≤ lead }
     requires unit { unit ≡ pass.old.house.limits.unit }
-    ensures acts { Acts lead pass.old pass.new optimiser.new }
+    ensures goes_on { GoesOn lead pass.old pass.new optimiser.new }
     ensures outcome { IsOutcome command pass.old pass.new result }
 {
     if is_plain(command) {
@@ -178,12 +177,13 @@ fn make_plain<R: Wait>(
     requires range { IsTrue (is_command_in_range pass.old.house command) }
     requires plain { is_plain command ≡ true }
     requires goes { GoesWith pass.old.house pass.old.seen optimiser.now }
-    ensures acts { Acts lead pass.old pass.new optimiser.now }
+    ensures goes_on { GoesOn lead pass.old pass.new optimiser.now }
     ensures outcome { IsOutcome command pass.old pass.new result }
 {
     match desk.command(rt, pass, command, None) {
         Answer::Logged(_) => Outcome::Made,
-        _ => Outcome::HistoryFull,
+        Answer::HistoryFull => Outcome::HistoryFull,
+        _ => unreachable!(),
     }
 }
 
@@ -205,7 +205,7 @@ fn make_again<R: Wait, L: Ledger>(
     requires goes { GoesWith pass.old.house pass.old.seen optimiser.old }
     requires lead { 1 ≤ lead }
     requires unit { unit ≡ pass.old.house.limits.unit }
-    ensures acts { Acts lead pass.old pass.new optimiser.new }
+    ensures goes_on { GoesOn lead pass.old pass.new optimiser.new }
     ensures outcome { IsOutcome command pass.old pass.new result }
 {
     let mut full = false;
@@ -240,7 +240,7 @@ fn make_attempt<R: Wait, L: Ledger>(
     requires lead { 1 ≤ lead }
     requires unit { unit ≡ pass.old.house.limits.unit }
     requires full { full ≡ true → HasAllVectors pass.old }
-    ensures acts { Acts lead pass.old pass.new optimiser.new }
+    ensures goes_on { GoesOn lead pass.old pass.new optimiser.new }
     ensures attempt { IsAttempt command pass.old pass.new result }
 {
     match command {
@@ -276,7 +276,7 @@ fn attempt_book<R: Wait, L: Ledger>(
     requires goes { GoesWith pass.old.house pass.old.seen optimiser.old }
     requires lead { 1 ≤ lead }
     requires full { full ≡ true → HasAllVectors pass.old }
-    ensures acts { Acts lead pass.old pass.new optimiser.new }
+    ensures goes_on { GoesOn lead pass.old pass.new optimiser.new }
     ensures attempt { IsAttempt (Book stay) pass.old pass.new result }
 {
     match desk.book(rt, pass, stay) {
@@ -310,12 +310,12 @@ fn publish_again<R: Wait, L: Ledger>(
     requires desk { pass.old.desk ≡ desk.now }
     requires goes { GoesWith pass.old.house pass.old.seen optimiser.old }
     requires lead { 1 ≤ lead }
-    ensures acts { Acts lead pass.old pass.new optimiser.new }
+    ensures goes_on { GoesOn lead pass.old pass.new optimiser.new }
     ensures attempt { (command : Command) → IsAttempt command pass.old pass.new result }
 {
     match optimiser.round(rt, alloc, desk, pass, lead, steps) {
         Ok(round) => Attempt::Again {
-            full: matches!(round, Round::PublicationsFull),
+            full: round.found_none_left(),
         },
         Err(_) => Attempt::Ended {
             outcome: Outcome::Memory,
@@ -341,7 +341,7 @@ fn attempt_group<R: Wait, L: Ledger>(
     requires range { IsTrue (is_command_in_range pass.old.house (Group span rooms amount)) }
     requires goes { GoesWith pass.old.house pass.old.seen optimiser.old }
     requires unit { unit ≡ pass.old.house.limits.unit }
-    ensures acts { Acts lead pass.old pass.new optimiser.new }
+    ensures goes_on { GoesOn lead pass.old pass.new optimiser.new }
     ensures attempt { IsAttempt (Group span rooms amount) pass.old pass.new result }
 {
     optimiser.advance(rt, desk, pass, steps);

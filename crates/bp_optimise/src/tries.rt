@@ -11,11 +11,7 @@ pub(crate) enum Outcome {
 /// What became of one try of a command.
 #[derive(Clone, Copy, Debug, PartialEq, Eq)]
 pub(crate) enum Attempt {
-    Ended {
-        outcome: Outcome,
-    },
+    Ended { outcome: Outcome },
     /// Nothing was logged. `full` says that a round found no vector left.
-    Again {
-        full: bool,
-    },
+    Again { full: bool },
 }

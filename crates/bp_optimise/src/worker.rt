@@ -2,12 +2,11 @@ ghost use Rattle.std.specs.Prelude.{◌≡◌, ◌≢◌, ◌≤◌, false};
 ghost use Rattle.bp_core.specs.Callers.{greatest_caller};
 ghost use Rattle.bp_optimise.specs.Following.{GoesWith};
 ghost use Rattle.bp_optimise.specs.Acts.{HasActed, commands_in};
-ghost use Rattle.bp_optimise.specs.Tries.{Acts, MakesNone};
+ghost use Rattle.bp_optimise.specs.Tries.{GoesOn, MakesNone};
 ghost use Rattle.bp_optimise.specs.Works.{HaveLeft, AddsSettled, IsWork};
 ghost use Rattle.bp_optimise.specs.Stepping.{IsStep};
 
 use crate::optimiser::Optimiser;
-use crate::round::Round;
 use bp_desk::{Desk, Left, Pass};
 use bp_edges::Gate;
 use bp_types::Steps;
@@ -27,9 +26,7 @@ pub struct WorkEnd {
 pub(crate) enum Next {
     /// All sessions have left, and the last round was not superseded.
     Leaves,
-    Rounds {
-        superseded: bool,
-    },
+    Rounds { superseded: bool },
     NoMemory,
 }
 
@@ -127,7 +124,7 @@ fn make_step<R: Wait, L: Ledger>(
     requires goes { GoesWith pass.old.house pass.old.seen optimiser.old }
     requires sessions { sessions ≤ greatest_caller }
     requires lead { 1 ≤ lead }
-    ensures acts { Acts lead pass.old pass.new optimiser.new }
+    ensures goes_on { GoesOn lead pass.old pass.new optimiser.new }
     ensures no_command { MakesNone pass.old pass.new }
     ensures step { IsStep sessions lead superseded pass.old pass.new result }
 {
@@ -137,7 +134,7 @@ fn make_step<R: Wait, L: Ledger>(
     }
     match optimiser.round(rt, alloc, desk, pass, lead, steps) {
         Ok(round) => Next::Rounds {
-            superseded: matches!(round, Round::Superseded { .. }),
+            superseded: round.is_superseded(),
         },
         Err(_) => Next::NoMemory,
     }

@@ -1,5 +1,5 @@
 -- What a session's commands leave, and why it stops.
-use Rattle.std.proofs.Common.{◌≡◌, ℕ, zero, suc, ◌+◌, ◌*◌, ◌<◌, ◌≤◌, Bool, true, false, ◌||◌, nat_le, nat_lt, ◌==◌, cond, List, [], ◌∷◌, ◌++◌, length, take, drop, count_by, slice_index_or, Option, Some, None, Ok, is_some, MatchOption, IsTrue, refl, sym, ap, subst, ◌∙◌, arith, append-nil, append_assoc, length-append}
+use Rattle.std.proofs.Common.{◌≡◌, ℕ, zero, suc, ◌+◌, ◌*◌, ◌<◌, ◌≤◌, Bool, true, false, ◌||◌, nat_le, nat_lt, ◌==◌, cond, List, [], ◌∷◌, ◌++◌, length, take, drop, count_by, slice_index_or, Option, Some, None, Ok, Err, is_some, MatchOption, IsTrue, refl, sym, ap, subst, ◌∙◌, arith, append-nil, append_assoc, length-append}
 use mathlib.Core.Logic.{dite}
 use native.Mathlib.Decide.{dec_lt}
 use Rattle.std.specs.List.{list_any}
@@ -34,6 +34,8 @@ use Rattle.bp_desk.specs.Calling.{IsCalled, AddsCall, diary, is_logged}
 use Rattle.bp_desk.specs.Typed.{book_answer, group_answer}
 use Rattle.bp_desk.specs.declared.replies.BookReply.{BookReply}
 use Rattle.bp_desk.specs.declared.replies.BookReply.TheVariants.{Accepted as Booked, TooLow as RateTooLow, NoRoom as NoRoomLeft}
+use Rattle.bp_desk.specs.declared.replies.GroupStop.{GroupStop}
+use Rattle.bp_desk.specs.declared.replies.GroupStop.TheVariants.{HistoryFull as NoGroupLeft, Unquoted as WithoutQuote, Stale as StaleQuote}
 use Rattle.bp_desk.specs.declared.replies.GroupReply.{GroupReply}
 use Rattle.bp_desk.specs.declared.replies.GroupReply.TheVariants.{Accepted as GroupBooked, TooLow as AmountTooLow, NoRoom as NoRoomsLeft}
 use Rattle.bp_optimise.specs.Following.{Optimising}
@@ -128,6 +130,12 @@ pub group_logged : (r : GroupReply) → is_logged (group_answer (Ok r)) ≡ true
 group_logged (GroupBooked displacement) = refl
 group_logged (AmountTooLow displacement) = refl
 group_logged (NoRoomsLeft night) = refl
+
+-- a group that is not replied to is not logged
+pub group_stops : (old new : PassState) (command : Command) (quoted : Option Quoted) (stop : GroupStop) → AddsCall old new (Do command quoted) (group_answer (Err stop)) → new.calls ≡ old.calls
+group_stops old new command quoted NoGroupLeft adds = adds
+group_stops old new command quoted WithoutQuote adds = adds
+group_stops old new command quoted (StaleQuote changes) adds = adds
 
 -- the pass has acted by a command, and the optimiser goes with it
 pub acts_by_command : (least : ℕ) (old new : PassState) (command : Command) (quoted : Option Quoted) (answer : Answer) (o : Optimising) → IsCalled old new (Do command quoted) answer → GoesWith old.house old.seen o → GoesOn least old new o

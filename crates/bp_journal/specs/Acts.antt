@@ -1,0 +1,100 @@
+-- The words of acts and replies, their numbers, and which reply is one of an act's.
+use Rattle.std.specs.Prelude.{ℕ, Bool, true, false, List, [], ◌∷◌, codes}
+use Rattle.bp_types.specs.declared.command.Command.{Command}
+use Rattle.bp_types.specs.declared.command.Command.TheVariants.{Book, Cancel, Reforecast, Reprice, Resize, Group}
+use Rattle.bp_text.specs.Words.{Word}
+use Rattle.bp_core.specs.declared.line.Act.{Act}
+use Rattle.bp_core.specs.declared.line.Act.TheVariants.{Do, Publish, Enrol, Leave}
+use Rattle.bp_core.specs.declared.line.Reply.{Reply}
+use Rattle.bp_core.specs.declared.line.Reply.TheVariants.{Accepted, TooLow, NoRoom, Cancelled, NotBooked, AlreadyCancelled, Done, BelowSold, GroupAccepted, GroupTooLow, GroupNoRoom, Vector}
+
+-- the word of a command, and its numbers
+abbrev pub command_word : Command → Word
+command_word (Book stay) = codes "book"
+command_word (Cancel nth) = codes "cancel"
+command_word (Reforecast stay count) = codes "reforecast"
+command_word (Reprice stay rate) = codes "reprice"
+command_word (Resize night rooms) = codes "resize"
+command_word (Group span rooms amount) = codes "group"
+
+abbrev pub command_numbers : Command → List ℕ
+command_numbers (Book stay) = stay ∷ []
+command_numbers (Cancel nth) = nth ∷ []
+command_numbers (Reforecast stay count) = stay ∷ count ∷ []
+command_numbers (Reprice stay rate) = stay ∷ rate ∷ []
+command_numbers (Resize night rooms) = night ∷ rooms ∷ []
+command_numbers (Group span rooms amount) = span.from ∷ span.to ∷ rooms ∷ amount ∷ []
+
+-- the word of an act, and its numbers
+abbrev pub act_word : Act → Word
+act_word (Do command) = command_word command
+act_word (Publish position) = codes "publish"
+act_word Enrol = codes "enrol"
+act_word Leave = codes "leave"
+
+abbrev pub act_numbers : Act → List ℕ
+act_numbers (Do command) = command_numbers command
+act_numbers (Publish position) = position ∷ []
+act_numbers Enrol = []
+act_numbers Leave = []
+
+-- the word of a reply, and its numbers
+abbrev pub reply_word : Reply → Word
+reply_word (Accepted vector sum) = codes "accepted"
+reply_word (TooLow vector sum rate) = codes "toolow"
+reply_word (NoRoom vector sum night) = codes "noroom"
+reply_word Cancelled = codes "cancelled"
+reply_word NotBooked = codes "notbooked"
+reply_word AlreadyCancelled = codes "alreadycancelled"
+reply_word Done = codes "done"
+reply_word (BelowSold sold) = codes "belowsold"
+reply_word (GroupAccepted displacement) = codes "accepted"
+reply_word (GroupTooLow displacement) = codes "toolow"
+reply_word (GroupNoRoom night) = codes "noroom"
+reply_word (Vector number) = codes "vector"
+
+abbrev pub reply_numbers : Reply → List ℕ
+reply_numbers (Accepted vector sum) = vector ∷ sum ∷ []
+reply_numbers (TooLow vector sum rate) = vector ∷ sum ∷ rate ∷ []
+reply_numbers (NoRoom vector sum night) = vector ∷ sum ∷ night ∷ []
+reply_numbers Cancelled = []
+reply_numbers NotBooked = []
+reply_numbers AlreadyCancelled = []
+reply_numbers Done = []
+reply_numbers (BelowSold sold) = sold ∷ []
+reply_numbers (GroupAccepted displacement) = displacement ∷ []
+reply_numbers (GroupTooLow displacement) = displacement ∷ []
+reply_numbers (GroupNoRoom night) = night ∷ []
+reply_numbers (Vector number) = number ∷ []
+
+-- a reply to a command of this kind
+abbrev pub is_reply_to : Command → Reply → Bool
+is_reply_to (Book stay) (Accepted vector sum) = true
+is_reply_to (Book stay) (TooLow vector sum rate) = true
+is_reply_to (Book stay) (NoRoom vector sum night) = true
+is_reply_to (Book stay) _ = false
+is_reply_to (Cancel nth) Cancelled = true
+is_reply_to (Cancel nth) NotBooked = true
+is_reply_to (Cancel nth) AlreadyCancelled = true
+is_reply_to (Cancel nth) _ = false
+is_reply_to (Reforecast stay count) Done = true
+is_reply_to (Reforecast stay count) _ = false
+is_reply_to (Reprice stay rate) Done = true
+is_reply_to (Reprice stay rate) _ = false
+is_reply_to (Resize night rooms) Done = true
+is_reply_to (Resize night rooms) (BelowSold sold) = true
+is_reply_to (Resize night rooms) _ = false
+is_reply_to (Group span rooms amount) (GroupAccepted displacement) = true
+is_reply_to (Group span rooms amount) (GroupTooLow displacement) = true
+is_reply_to (Group span rooms amount) (GroupNoRoom night) = true
+is_reply_to (Group span rooms amount) _ = false
+
+-- a reply to an act of this kind
+abbrev pub is_reply_of : Act → Reply → Bool
+is_reply_of (Do command) reply = is_reply_to command reply
+is_reply_of (Publish position) (Vector number) = true
+is_reply_of (Publish position) _ = false
+is_reply_of Enrol Done = true
+is_reply_of Enrol _ = false
+is_reply_of Leave Done = true
+is_reply_of Leave _ = false

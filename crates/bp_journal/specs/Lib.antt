@@ -1,0 +1,7 @@
+pub mod Stored
+pub mod Acts
+pub mod Journals
+pub mod Limits
+pub mod Found
+pub mod Read
+pub mod Laws

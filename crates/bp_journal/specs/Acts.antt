@@ -7,6 +7,7 @@ use Rattle.bp_core.specs.declared.line.Act.{Act}
 use Rattle.bp_core.specs.declared.line.Act.TheVariants.{Do, Publish, Enrol, Leave}
 use Rattle.bp_core.specs.declared.line.Reply.{Reply}
 use Rattle.bp_core.specs.declared.line.Reply.TheVariants.{Accepted, TooLow, NoRoom, Cancelled, NotBooked, AlreadyCancelled, Done, BelowSold, GroupAccepted, GroupTooLow, GroupNoRoom, Vector}
+use Rattle.bp_core.specs.Lines.{is_done}
 
 -- the word of a command, and its numbers
 abbrev pub command_word : Command → Word
@@ -67,34 +68,50 @@ reply_numbers (GroupTooLow displacement) = displacement ∷ []
 reply_numbers (GroupNoRoom night) = night ∷ []
 reply_numbers (Vector number) = number ∷ []
 
+-- the replies to a Book
+abbrev pub is_book_reply : Reply → Bool
+is_book_reply (Accepted vector sum) = true
+is_book_reply (TooLow vector sum rate) = true
+is_book_reply (NoRoom vector sum night) = true
+is_book_reply _ = false
+
+-- the replies to a Cancel
+abbrev pub is_cancel_reply : Reply → Bool
+is_cancel_reply Cancelled = true
+is_cancel_reply NotBooked = true
+is_cancel_reply AlreadyCancelled = true
+is_cancel_reply _ = false
+
+-- the replies to a Resize
+abbrev pub is_resize_reply : Reply → Bool
+is_resize_reply Done = true
+is_resize_reply (BelowSold sold) = true
+is_resize_reply _ = false
+
+-- the replies to a Group
+abbrev pub is_group_reply : Reply → Bool
+is_group_reply (GroupAccepted displacement) = true
+is_group_reply (GroupTooLow displacement) = true
+is_group_reply (GroupNoRoom night) = true
+is_group_reply _ = false
+
+-- the replies to a Publish
+abbrev pub is_publish_reply : Reply → Bool
+is_publish_reply (Vector number) = true
+is_publish_reply _ = false
+
 -- a reply to a command of this kind
 abbrev pub is_reply_to : Command → Reply → Bool
-is_reply_to (Book stay) (Accepted vector sum) = true
-is_reply_to (Book stay) (TooLow vector sum rate) = true
-is_reply_to (Book stay) (NoRoom vector sum night) = true
-is_reply_to (Book stay) _ = false
-is_reply_to (Cancel nth) Cancelled = true
-is_reply_to (Cancel nth) NotBooked = true
-is_reply_to (Cancel nth) AlreadyCancelled = true
-is_reply_to (Cancel nth) _ = false
-is_reply_to (Reforecast stay count) Done = true
-is_reply_to (Reforecast stay count) _ = false
-is_reply_to (Reprice stay rate) Done = true
-is_reply_to (Reprice stay rate) _ = false
-is_reply_to (Resize night rooms) Done = true
-is_reply_to (Resize night rooms) (BelowSold sold) = true
-is_reply_to (Resize night rooms) _ = false
-is_reply_to (Group span rooms amount) (GroupAccepted displacement) = true
-is_reply_to (Group span rooms amount) (GroupTooLow displacement) = true
-is_reply_to (Group span rooms amount) (GroupNoRoom night) = true
-is_reply_to (Group span rooms amount) _ = false
+is_reply_to (Book stay) = is_book_reply
+is_reply_to (Cancel nth) = is_cancel_reply
+is_reply_to (Reforecast stay count) = is_done
+is_reply_to (Reprice stay rate) = is_done
+is_reply_to (Resize night rooms) = is_resize_reply
+is_reply_to (Group span rooms amount) = is_group_reply
 
 -- a reply to an act of this kind
 abbrev pub is_reply_of : Act → Reply → Bool
-is_reply_of (Do command) reply = is_reply_to command reply
-is_reply_of (Publish position) (Vector number) = true
-is_reply_of (Publish position) _ = false
-is_reply_of Enrol Done = true
-is_reply_of Enrol _ = false
-is_reply_of Leave Done = true
-is_reply_of Leave _ = false
+is_reply_of (Do command) = is_reply_to command
+is_reply_of (Publish position) = is_publish_reply
+is_reply_of Enrol = is_done
+is_reply_of Leave = is_done

@@ -11,7 +11,7 @@ use Rattle.bp_core.specs.declared.line.Act.{Act}
 use Rattle.bp_core.specs.declared.line.Act.TheVariants.{Do, Publish}
 use Rattle.bp_core.specs.declared.line.Entry.{Entry}
 use Rattle.bp_core.specs.declared.line.Line.{Line}
-use Rattle.bp_core.specs.Lines.{History}
+use Rattle.bp_core.specs.Lines.{History, line_at}
 use Rattle.bp_journal.specs.declared.version.Version.{Version}
 use Rattle.bp_journal.specs.declared.version.Version.TheVariants.{One, Two}
 use Rattle.bp_journal.specs.Acts.{act_word, act_numbers, reply_word, reply_numbers, is_reply_of}
@@ -52,6 +52,10 @@ certificate_part (Some c) = claim_lines c
 abbrev pub lines_from : ℕ → History → List TextLine
 lines_from place [] = []
 lines_from place (x ∷ xs) = entry_text place x.entry ∷ (certificate_part x.certificate ++ lines_from (place + 1) xs)
+
+-- the lines of the entry at a place
+abbrev pub place_lines : History → ℕ → List TextLine
+place_lines H place = entry_text place (line_at H place).entry ∷ certificate_part (line_at H place).certificate
 
 -- the first line of a version
 abbrev pub version_line : Version → TextLine

@@ -1,5 +1,5 @@
 -- Laws over journals' texts.
-use Rattle.std.specs.Prelude.{◌≡◌, ◌≢◌, ℕ, IsTrue, All, List, ◌∷◌, ◌++◌, Result, Ok, Err}
+use Rattle.std.specs.Prelude.{◌≡◌, ◌≢◌, ℕ, IsTrue, List, Result, Err}
 use Rattle.bp_types.specs.House.{Inn}
 use Rattle.bp_text.specs.declared.text_error.TextError.{TextError}
 use Rattle.bp_text.specs.declared.text_error.TextError.TheVariants.{Memory}
@@ -7,27 +7,13 @@ use Rattle.bp_text.specs.Lines.{text_of}
 use Rattle.bp_core.specs.declared.line.Entry.{Entry}
 use Rattle.bp_core.specs.Lines.{History}
 use Rattle.bp_core.specs.Legal.{IsLegal}
-use Rattle.bp_journal.specs.declared.version.Version.{Version}
 use Rattle.bp_journal.specs.declared.version.Version.TheVariants.{One, Two}
-use Rattle.bp_journal.specs.Journals.{entry_text, journal_text, journal_lines, is_journal}
-use Rattle.bp_journal.specs.Limits.{IsLineWithin}
+use Rattle.bp_journal.specs.Journals.{entry_text, journal_lines, is_journal}
 use Rattle.bp_journal.specs.Read.{IsJournalText}
 
 -- no two entries are spelt the same
 abbrev pub EntriesAreTold : Type 0
 EntriesAreTold = (place : ℕ) (e f : Entry) → entry_text place e ≡ entry_text place f → e ≡ f
-
--- no two histories that a version can say have one text
-abbrev pub OneJournal : Type 0
-OneJournal =
-    (version : Version) (G H : History) → IsTrue (is_journal version G) → IsTrue (is_journal version H) →
-    text_of (journal_lines version G) ≡ text_of (journal_lines version H) → G ≡ H
-
--- no text of a version goes on behind another
-abbrev pub NoneGoesOn : Type 0
-NoneGoesOn =
-    (version : Version) (G H : History) (byte : ℕ) (more : List ℕ) → IsTrue (is_journal version G) → IsTrue (is_journal version H) →
-    text_of (journal_lines version H) ≢ text_of (journal_lines version G) ++ byte ∷ more
 
 -- no text of the one version is a text of the other
 abbrev pub VersionsAreTold : Type 0

@@ -48,15 +48,18 @@ impl Journal {
         ensures added { OnOk result (self.new ≡ self.old ++ line ∷ []) }
         ensures unchanged { IfErr result (λ _. self.new ≡ self.old) }
     {
+        let entry = line.entry;
         self.entries.reserve(1)?;
-        if let Some(certificate) = line.certificate {
-            self.certificates.push(certificate)?;
+        match line.certificate {
+            None => {}
+            Some(certificate) => self.certificates.push(certificate)?,
         }
-        self.entries.push_reserved(line.entry);
+        self.entries.push_reserved(entry);
         Ok(())
     }
 
     /// How many lines there are.
+    #[tactic(auto, using(crate::proofs::StoredLemmas::lines_of_length))]
     pub fn len(&self) -> usize
         ensures { result ≡ length self.now }
     {
@@ -64,6 +67,7 @@ impl Journal {
     }
 
     /// Whether there are none.
+    #[tactic(auto, using(crate::proofs::StoredLemmas::lines_of_length))]
     pub fn is_empty(&self) -> bool
         ensures { result ≡ (length self.now == 0) }
     {

@@ -231,12 +231,22 @@ reply_same r s e =
     let numbers = numbers_same (reply_numbers r) (reply_numbers s) parts.1 in
     sym (reply_again r) ∙ ap (λ w. reply_by (reply_kind w) (reply_numbers r)) parts.0 ∙ ap (reply_by (reply_kind (reply_word s))) numbers ∙ reply_again s
 
+-- four numbers stand behind the word of a Group
+pub no_group : (old mid : List Word) (f t : ℕ) → old ≡ spelled f ∷ spelled t ∷ mid → ((m n : ℕ) (more : List Word) → mid ≡ spelled m ∷ spelled n ∷ more → ⊥)
+    → (a : Act) (more : List Word) → act_word a ≡ codes "group" → old ≡ map spelled (act_numbers a) ++ more → ⊥
+no_group old mid f t two none a more e is =
+    let numbers = act_numbers a in
+    let group : a ≡ Do (Group (record { from = at numbers 0; to = at numbers 1 }) (at numbers 2) (at numbers 3)) = sym (act_again a) ∙ ap (λ w. act_by (kind w) numbers) e in
+    let flat : old ≡ spelled (at numbers 0) ∷ spelled (at numbers 1) ∷ spelled (at numbers 2) ∷ spelled (at numbers 3) ∷ more = is ∙ ap (λ b. map spelled (act_numbers b) ++ more) group in
+    let rest = (first_word (spelled f) (spelled (at numbers 0)) _ _ (sym two ∙ flat)).1 in
+    none (at numbers 2) (at numbers 3) more (first_word (spelled t) (spelled (at numbers 1)) _ _ rest).1
+
 -- an act is told from its words, whatever stands behind them
 pub act_same : (a b : Act) (ws vs : List Word) → phrase (act_word a) (act_numbers a) ++ ws ≡ phrase (act_word b) (act_numbers b) ++ vs → (a ≡ b) × (ws ≡ vs)
 act_same a b ws vs e =
     let parts = first_word (act_word a) (act_word b) _ _ e in
     let long : length (map spelled (act_numbers a)) ≡ length (map spelled (act_numbers b)) =
-        length-map (act_numbers a) spelled ∙ sym (count_again a) ∙ ap (λ w. count_by_kind (kind w)) parts.0 ∙ count_again b ∙ sym (length-map (act_numbers b) spelled) in
+    length-map (act_numbers a) spelled ∙ sym (count_again a) ∙ ap (λ w. count_by_kind (kind w)) parts.0 ∙ count_again b ∙ sym (length-map (act_numbers b) spelled) in
     let two = halves (map spelled (act_numbers a)) (map spelled (act_numbers b)) _ _ long parts.1 in
     let numbers = numbers_same (act_numbers a) (act_numbers b) two.0 in
     (sym (act_again a) ∙ ap (λ w. act_by (kind w) (act_numbers a)) parts.0 ∙ ap (act_by (kind (act_word b))) numbers ∙ act_again b, two.1)

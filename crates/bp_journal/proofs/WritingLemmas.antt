@@ -1,5 +1,5 @@
 -- What of a history is written, place by place.
-use Rattle.std.proofs.Common.{◌≡◌, ℕ, ◌+◌, ◌<◌, ◌≤◌, refl, ap, sym, subst, ◌∙◌, arith, List, [], ◌∷◌, ◌++◌, length, take, drop, append_assoc, Option, Some, None, Result, IsErr, slice_get}
+use Rattle.std.proofs.Common.{◌≡◌, ℕ, ◌+◌, ◌<◌, ◌≤◌, refl, ap, sym, subst, ◌∙◌, arith, List, [], ◌∷◌, ◌++◌, length, take, drop, append_assoc, append-nil, Option, Some, None, Result, IsErr, slice_get}
 use Rattle.std.specs.Prelude.{option_and_then}
 use Rattle.std.specs.Option.{option_map}
 use Rattle.std.proofs.lemmas.List.{take-append-drop, length-take-le, take_all}
@@ -9,8 +9,9 @@ use Rattle.bp_edges.specs.Writing.{AppendedPrefix}
 use Rattle.bp_edges.proofs.Grows.{AppendedPrefix-longer}
 use Rattle.bp_text.specs.Lines.{Line as TextLine, text_of}
 use Rattle.bp_text.specs.Drafts.{IsDrafted, Drafts}
-use Rattle.bp_text.proofs.DraftLemmas.{drafted_nothing, drafted_more, refused_more, Drafts-refused, stopped}
+use Rattle.bp_text.proofs.DraftLemmas.{drafted_more, refused_more, refused_longer, Drafts-append, Drafts-refused}
 use Rattle.bp_text.proofs.StageLemmas.{text_of-append}
+use Rattle.bp_cert.specs.Texts.{claim_lines}
 use Rattle.bp_core.specs.declared.line.Entry.{Entry}
 use Rattle.bp_core.specs.declared.line.Line.{Line}
 use Rattle.bp_core.specs.Lines.{History, line_at, no_line, certificate_at}
@@ -58,9 +59,9 @@ pub place_refused : {E : Type 0} (before middle now : Option (List ℕ)) (old dr
 place_refused before middle now old draft new H n result within first second refused =
     let rest = text_of (lines_from (0 + length (take (n + 1) H)) (drop (n + 1) H)) in
     let whole : old ++ text_of (lines_from 0 H) ≡ ((old ++ so_far H n) ++ place_text H n) ++ rest =
-        ap (λ t. old ++ t) (behind_so_far H (n + 1) ∙ ap (λ t. t ++ rest) (so_far_more H n within))
-        ∙ sym (append_assoc old (so_far H n ++ place_text H n) rest)
-        ∙ ap (λ t. t ++ rest) (sym (append_assoc old (so_far H n) (place_text H n))) in
+    ap (λ t. old ++ t) (behind_so_far H (n + 1) ∙ ap (λ t. t ++ rest) (so_far_more H n within))
+    ∙ sym (append_assoc old (so_far H n ++ place_text H n) rest)
+    ∙ ap (λ t. t ++ rest) (sym (append_assoc old (so_far H n) (place_text H n))) in
     let P : List ℕ → Type 0 = λ t. AppendedPrefix before now t in
     Drafts-refused before now old new (text_of (lines_from 0 H)) result refused
     (subst P (sym whole) (AppendedPrefix-longer ((old ++ so_far H n) ++ place_text H n) rest (refused_more draft (old ++ so_far H n) (place_text H n) first second)))
@@ -88,6 +89,26 @@ place_in_two H place e c entry certificate =
     ∙ ap (λ (f : Entry). text_of (entry_text place f ∷ []) ++ text_of (certificate_part (line_at H place).certificate)) (sym entry)
     ∙ ap (λ (o : Option Claim). text_of (entry_text place e ∷ []) ++ text_of (certificate_part o)) (sym certificate)
 
--- nothing of it was written
-pub nothing_refused : {E : Type 0} (told : Option (List ℕ)) (old bytes : List ℕ) (result : Result (Unit {0}) E) → IsErr result → Drafts told told old old bytes result
-nothing_refused told old bytes result refused = Drafts-refused told told old old bytes result refused (stopped old old bytes (drafted_nothing told old))
+-- the line of an entry was refused
+pub place_stopped : {E : Type 0} (before now : Option (List ℕ)) (old new bytes : List ℕ) (H : History) (place : ℕ) (e : Entry) (result : Result (Unit {0}) E)
+    → e ≡ (line_at H place).entry → bytes ≡ text_of (entry_text place e ∷ []) → IsErr result → AppendedPrefix before now (old ++ bytes) → Drafts before now old new (place_text H place) result
+place_stopped before now old new bytes H place e result entry is refused part =
+    let c = (line_at H place).certificate in
+    let P : List ℕ → Type 0 = λ t. AppendedPrefix before now (old ++ t) in
+    let two : bytes ++ text_of (certificate_part c) ≡ place_text H place = ap (λ t. t ++ text_of (certificate_part c)) is ∙ sym (place_in_two H place e c entry refl) in
+    Drafts-refused before now old new (place_text H place) result refused (subst P two (refused_longer old bytes (text_of (certificate_part c)) part))
+
+-- an entry without a certificate
+pub place_plain : (before now : Option (List ℕ)) (old new bytes : List ℕ) (H : History) (place : ℕ) (e : Entry)
+    → e ≡ (line_at H place).entry → bytes ≡ text_of (entry_text place e ∷ []) → None ≡ (line_at H place).certificate → IsDrafted before now new (old ++ bytes) → IsDrafted before now new (old ++ place_text H place)
+place_plain before now old new bytes H place e entry is none first =
+    let P : List ℕ → Type 0 = λ t. IsDrafted before now new (old ++ t) in
+    subst P (is ∙ sym (append-nil (text_of (entry_text place e ∷ []))) ∙ sym (place_in_two H place e None entry none)) first
+
+-- an entry with one
+pub place_certified : {E : Type 0} (before middle now : Option (List ℕ)) (old draft new bytes : List ℕ) (H : History) (place : ℕ) (e : Entry) (c : Claim) (result : Result (Unit {0}) E)
+    → e ≡ (line_at H place).entry → bytes ≡ text_of (entry_text place e ∷ []) → Some c ≡ (line_at H place).certificate → IsDrafted before middle draft (old ++ bytes)
+    → Drafts middle now draft new (text_of (claim_lines c)) result → Drafts before now old new (place_text H place) result
+place_certified before middle now old draft new bytes H place e c result entry is some first second =
+    let P : List ℕ → Type 0 = λ t. Drafts before now old new t result in
+    subst P (ap (λ t. t ++ text_of (claim_lines c)) is ∙ sym (place_in_two H place e (Some c) entry some)) (Drafts-append before middle now old draft new bytes (text_of (claim_lines c)) result first second)

@@ -1,6 +1,6 @@
 -- Laws over journals' texts.
-use Rattle.std.specs.Prelude.{◌≡◌, ◌≢◌, ℕ, IsTrue, List, Result, Err}
-use Rattle.bp_types.specs.House.{Inn}
+use Rattle.std.specs.Prelude.{◌≡◌, ◌≢◌, ℕ, IsTrue, All, List, Result, Ok, Err}
+use Rattle.bp_types.specs.House.{Inn, IsHouse}
 use Rattle.bp_text.specs.declared.text_error.TextError.{TextError}
 use Rattle.bp_text.specs.declared.text_error.TextError.TheVariants.{Memory}
 use Rattle.bp_text.specs.Lines.{text_of}
@@ -8,7 +8,8 @@ use Rattle.bp_core.specs.declared.line.Entry.{Entry}
 use Rattle.bp_core.specs.Lines.{History}
 use Rattle.bp_core.specs.Legal.{IsLegal}
 use Rattle.bp_journal.specs.declared.version.Version.TheVariants.{One, Two}
-use Rattle.bp_journal.specs.Journals.{entry_text, journal_lines, is_journal}
+use Rattle.bp_journal.specs.Journals.{entry_text, journal_lines, journal_text, is_journal}
+use Rattle.bp_journal.specs.Limits.{IsLineWithin}
 use Rattle.bp_journal.specs.Read.{IsJournalText}
 
 -- no two entries are spelt the same
@@ -27,3 +28,12 @@ OneReading =
 -- a legal history can be said as a journal of the second version
 abbrev pub LegalIsJournal : Type 0
 LegalIsJournal = (h : Inn) (H : History) → IsLegal h H → IsTrue (is_journal Two H)
+
+-- and its numbers keep to the reader's limits
+abbrev pub LegalIsWithin : Type 0
+LegalIsWithin = (h : Inn) (H : History) → IsHouse h → IsLegal h H → All IsLineWithin H
+
+-- so what is written of it is read as this very history, want of memory apart
+abbrev pub WrittenIsRead : Type 0
+WrittenIsRead =
+    (h : Inn) (H : History) (answer : Result History TextError) → IsHouse h → IsLegal h H → answer ≢ Err Memory → IsJournalText (journal_text H) answer → answer ≡ Ok H

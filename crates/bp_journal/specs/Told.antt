@@ -50,9 +50,9 @@ IsReplyRead fits old new (Some t) = (r : Reply) × (fits r ≡ true) × (old ≡
 
 -- an entry's caller, act and reply were told
 pub record IsEntryTold (e : Entry) (caller : Counted) (act : ToldAct) (reply : ToldReply) : Type 0 where
-  pub caller : IsCounted MOST_HALF e.caller caller
-  pub act : IsActTold e.act act
-  pub reply : IsReplyTold e.reply reply
+  pub caller_is : IsCounted MOST_HALF e.caller caller
+  pub act_is : IsActTold e.act act
+  pub reply_is : IsReplyTold e.reply reply
 
 -- what is found of an entry that was told
 abbrev pub IsEntryFound : Entry → Found → Type 0

@@ -17,7 +17,9 @@ fn book(words: &mut Words<'_>) -> Option<ToldAct>
     match words.number(MOST_HALF) {
         None => None,
         Some(number) => {
-            let act = Act::Do(Command::Book { stay: number.value as u32 });
+            let act = Act::Do(Command::Book {
+                stay: number.value as u32,
+            });
             let great = number.great;
             Some(ToldAct { act, great })
         }
@@ -31,7 +33,9 @@ fn cancel(words: &mut Words<'_>) -> Option<ToldAct>
     match words.number(MOST_NUMBER) {
         None => None,
         Some(number) => {
-            let act = Act::Do(Command::Cancel { nth: number.value as u64 });
+            let act = Act::Do(Command::Cancel {
+                nth: number.value as u64,
+            });
             let great = number.great;
             Some(ToldAct { act, great })
         }
@@ -45,7 +49,10 @@ fn reforecast(words: &mut Words<'_>) -> Option<ToldAct>
     match two(words, MOST_HALF, MOST_NUMBER) {
         None => None,
         Some((first, second)) => {
-            let act = Act::Do(Command::Reforecast { stay: first.value as u32, count: second.value as u64 });
+            let act = Act::Do(Command::Reforecast {
+                stay: first.value as u32,
+                count: second.value as u64,
+            });
             let great = is_either(first.great, second.great);
             Some(ToldAct { act, great })
         }
@@ -59,7 +66,10 @@ fn reprice(words: &mut Words<'_>) -> Option<ToldAct>
     match two(words, MOST_HALF, MOST_NUMBER) {
         None => None,
         Some((first, second)) => {
-            let act = Act::Do(Command::Reprice { stay: first.value as u32, rate: second.value as u64 });
+            let act = Act::Do(Command::Reprice {
+                stay: first.value as u32,
+                rate: second.value as u64,
+            });
             let great = is_either(first.great, second.great);
             Some(ToldAct { act, great })
         }
@@ -73,7 +83,10 @@ fn resize(words: &mut Words<'_>) -> Option<ToldAct>
     match two(words, MOST_HALF, MOST_NUMBER) {
         None => None,
         Some((first, second)) => {
-            let act = Act::Do(Command::Resize { night: first.value as u32, rooms: second.value as u64 });
+            let act = Act::Do(Command::Resize {
+                night: first.value as u32,
+                rooms: second.value as u64,
+            });
             let great = is_either(first.great, second.great);
             Some(ToldAct { act, great })
         }
@@ -90,9 +103,19 @@ fn group(words: &mut Words<'_>) -> Option<ToldAct>
     match two(words, MOST_NUMBER, MOST_NUMBER) {
         None => None,
         Some((rooms, amount)) => {
-            let span = Span { from: from.value as u32, to: to.value as u32 };
-            let act = Act::Do(Command::Group { span, rooms: rooms.value as u64, amount: amount.value as u64 });
-            let great = is_either(is_either(from.great, to.great), is_either(rooms.great, amount.great));
+            let span = Span {
+                from: from.value as u32,
+                to: to.value as u32,
+            };
+            let act = Act::Do(Command::Group {
+                span,
+                rooms: rooms.value as u64,
+                amount: amount.value as u64,
+            });
+            let great = is_either(
+                is_either(from.great, to.great),
+                is_either(rooms.great, amount.great),
+            );
             Some(ToldAct { act, great })
         }
     }
@@ -105,7 +128,9 @@ fn publish(words: &mut Words<'_>) -> Option<ToldAct>
     match words.number(MOST_NUMBER) {
         None => None,
         Some(number) => {
-            let act = Act::Publish { position: number.value as u64 };
+            let act = Act::Publish {
+                position: number.value as u64,
+            };
             let great = number.great;
             Some(ToldAct { act, great })
         }
@@ -144,10 +169,16 @@ pub(crate) fn act(words: &mut Words<'_>, version: Version) -> Option<ToldAct>
         return publish(words);
     }
     if word == b"enrol".as_slice() {
-        return Some(ToldAct { act: Act::Enrol, great: false });
+        return Some(ToldAct {
+            act: Act::Enrol,
+            great: false,
+        });
     }
     if word == b"leave".as_slice() {
-        return Some(ToldAct { act: Act::Leave, great: false });
+        return Some(ToldAct {
+            act: Act::Leave,
+            great: false,
+        });
     }
     None
 }

@@ -1,5 +1,5 @@
 //! The line of an entry.
-ghost use Rattle.std.specs.Prelude.{◌≡◌, ◌∷◌, true, List, MatchBool, MatchOption};
+ghost use Rattle.std.specs.Prelude.{◌≡◌, ◌==◌, ◌&&◌, ◌∷◌, not, true, List, MatchBool, MatchOption};
 ghost use Rattle.bp_core.specs.declared.line.Entry.{Entry};
 ghost use Rattle.bp_text.specs.Numbers.{spelled};
 ghost use Rattle.bp_text.specs.Words.{Word};
@@ -37,8 +37,15 @@ fn is_place(words: &mut Words<'_>, place: u64) -> bool
 {
     match words.number(u128::from(place)) {
         None => false,
-        Some(number) => !number.great && number.value == u128::from(place),
+        Some(number) => is_just(number, u128::from(place)),
     }
+}
+
+/// Whether a number that was counted is this one.
+fn is_just(number: Counted, wanted: u128) -> bool
+    ensures { result ≡ (not number.great && (number.value == wanted)) }
+{
+    !number.great && number.value == wanted
 }
 
 /// The caller, the act and the reply that the words behind the place tell, and none is left.

@@ -2,7 +2,7 @@
 
 ghost use Rattle.bp_text.specs.Laws.{HasOneSpelling, IsPrefixFree};
 ghost use Rattle.bp_journal.specs.Journals.{noted_lines};
-ghost use Rattle.bp_journal.specs.Laws.{EntriesAreTold, VersionsAreTold, OneReading, LegalIsJournal};
+ghost use Rattle.bp_journal.specs.Laws.{EntriesAreTold, VersionsAreTold, OneReading, LegalIsJournal, LegalIsWithin, WrittenIsRead};
 
 /// Different entries are spelt differently.
 pub fn entries_are_told()
@@ -22,4 +22,14 @@ pub fn journals_have_one_spelling()
 /// certificate exactly where the act is a Publish.
 pub fn legal_is_journal()
     ensures { LegalIsJournal }
+{}
+
+/// The numbers of a legal history keep to the limits of the reader.
+pub fn legal_is_within()
+    ensures { LegalIsWithin }
+{}
+
+/// What is written of a legal history is read as this very history.
+pub fn written_is_read()
+    ensures { WrittenIsRead }
 {}

@@ -1,10 +1,11 @@
 -- Lines of entries and certificates, with one entry more.
-use Rattle.std.proofs.Common.{◌≡◌, ℕ, ◌+◌, refl, ap, ◌∙◌, arith, true, false, cond, List, [], ◌∷◌, ◌++◌, length, count_by, Some, None, inl, inr}
+use Rattle.std.proofs.Common.{◌≡◌, ℕ, ◌+◌, refl, ap, sym, ◌∙◌, arith, true, false, cond, Option, is_some, List, [], ◌∷◌, ◌++◌, length, count_by, Some, None, inl, inr}
 use Rattle.std.proofs.lemmas.Bool.{cases_Bool}
 use Rattle.std.proofs.lemmas.List.Sums.{sum_by-cons, sum_by-append}
 use Rattle.bp_types.specs.Claim.{Claim}
 use Rattle.bp_core.specs.declared.line.Entry.{Entry}
-use Rattle.bp_core.specs.Lines.{History}
+use Rattle.bp_core.specs.declared.line.Line.{Line}
+use Rattle.bp_core.specs.Lines.{History, published_position}
 use Rattle.bp_journal.specs.Stored.{publishes, line_with, certificates_after, lines_of, publications}
 
 pub lines_of_length : (es : List Entry) (cs : List Claim) → length (lines_of es cs) ≡ length es
@@ -43,3 +44,19 @@ lines_of-push_claim (y ∷ es) (d ∷ cs) e c here as_many =
           let rest : length (d ∷ cs) ≡ publications es = omega (arith, parts, ap (λ t. cond t 1 0 + publications es) plain) in
           rw plain (ap (λ H. record { entry = y; certificate = None } ∷ H) (lines_of-push_claim es (d ∷ cs) e c here rest))
     ]
+
+-- a line without a certificate, behind the others
+pub push_plain : (es new : List Entry) (cs : List Claim) (now : History) (x : Line) → new ≡ es ++ x.entry ∷ [] → lines_of es cs ≡ now → x.certificate ≡ None → is_some x.certificate ≡ is_some (published_position x.entry.act) →
+    lines_of new cs ≡ now ++ x ∷ []
+push_plain es new cs now x entries before none fits =
+    let plain : publishes x.entry ≡ false = sym fits ∙ ap (λ (o : Option Claim). is_some o) none in
+    ap (λ ns. lines_of ns cs) entries ∙ lines_of-push_plain es cs x.entry plain
+    ∙ ap (λ (o : Option Claim). lines_of es cs ++ record { entry = x.entry; certificate = o } ∷ []) (sym none) ∙ ap (λ H. H ++ x ∷ []) before
+
+-- a line with one
+pub push_certified : (es new : List Entry) (cs ds : List Claim) (now : History) (x : Line) (c : Claim) → new ≡ es ++ x.entry ∷ [] → ds ≡ cs ++ c ∷ [] → lines_of es cs ≡ now → length cs ≡ publications es → x.certificate ≡ Some c → is_some x.certificate ≡ is_some (published_position x.entry.act) →
+    lines_of new ds ≡ now ++ x ∷ []
+push_certified es new cs ds now x c entries certificates before as_many some fits =
+    let here : publishes x.entry ≡ true = sym fits ∙ ap (λ (o : Option Claim). is_some o) some in
+    ap (λ ns. lines_of ns ds) entries ∙ ap (lines_of (es ++ x.entry ∷ [])) certificates ∙ lines_of-push_claim es cs x.entry c here as_many
+    ∙ ap (λ (o : Option Claim). lines_of es cs ++ record { entry = x.entry; certificate = o } ∷ []) (sym some) ∙ ap (λ H. H ++ x ∷ []) before

@@ -1,5 +1,6 @@
 -- The numbers of a legal history keep to the reader's limits.
-use Rattle.std.proofs.Common.{◌≡◌, ℕ, zero, suc, ◌+◌, ◌*◌, ◌-◌, ◌<◌, ◌≤◌, ◌==◌, refl, ap, sym, subst, ◌∙◌, arith, Bool, true, false, cond, List, [], ◌∷◌, ◌++◌, length, take, All, IsTrue, Option, Some, None, MatchOption, unwrap_or, nat_lt, nat_le, inl, inr, get_or}
+use Rattle.std.proofs.Common.{◌≡◌, ℕ, zero, suc, ◌+◌, ◌*◌, ◌-◌, ◌<◌, ◌≤◌, ◌==◌, ◌&&◌, refl, ap, sym, subst, ◌∙◌, arith, Bool, true, false, cond, List, [], ◌∷◌, ◌++◌, length, take, All, IsTrue, Option, Some, None, MatchOption, unwrap_or, nat_lt, nat_le, inl, inr, get_or}
+use Rattle.std.specs.Prelude.{not}
 use Rattle.std.specs.List.{list_any}
 use Rattle.std.proofs.Math.Seq.{take-length}
 use Rattle.std.proofs.lemmas.Bool.{and_parts, or_cases, eqb-true}
@@ -24,7 +25,7 @@ use Rattle.bp_core.specs.declared.line.Line.{Line}
 use Rattle.bp_core.specs.declared.line.Reply.{Reply}
 use Rattle.bp_core.specs.declared.line.Reply.TheVariants.{Accepted, TooLow, NoRoom, Cancelled, NotBooked, AlreadyCancelled, Done, BelowSold, GroupAccepted, GroupTooLow, GroupNoRoom, Vector}
 use Rattle.bp_core.specs.Lines.{History, line_at, no_line, is_accepted, is_cancellation, nth_book, vectors, last_number, last_value, last_prices, prices_of}
-use Rattle.bp_core.specs.Callers.{has_enrolled, may_act, may_log}
+use Rattle.bp_core.specs.Callers.{has_enrolled, has_left, may_act, may_log}
 use Rattle.bp_core.specs.Instance.{span_of, rate_of, sold_at, instance_of, instance_at, rooms_left_at}
 use Rattle.bp_core.specs.Answer.{IsReply, IsCommandReply, IsGroupReply, IsPricedReply, book_reply, covered_reply, given_up_reply, cancel_reply, resize_reply, group_reply, sum_of}
 use Rattle.bp_core.specs.Legal.{IsLegal, IsLegalLine, IsCertified, is_in_range, is_command_in_range}
@@ -95,9 +96,9 @@ tame_at h H n house legal within = record {
 
 -- the caller
 may_act_small : (G : History) (caller : ℕ) → ((c : ℕ) → has_enrolled G c ≡ true → c ≤ 63) → may_act G caller ≡ true → caller ≤ 63
-may_act_small G caller callers may = elim (or_cases _ _ may) [
+may_act_small G caller callers may = elim (or_cases (caller == 0) (has_enrolled G caller && not (has_left G caller)) may) [
   | inl opener ↦ omega (arith, eqb-true caller 0 opener)
-  | inr present ↦ callers caller (and_parts _ _ present).0
+  | inr present ↦ callers caller (and_parts (has_enrolled G caller) (not (has_left G caller)) present).0
 ]
 
 caller_small : (G : History) (caller : ℕ) (act : Act) → ((c : ℕ) → has_enrolled G c ≡ true → c ≤ 63) → IsTrue (may_log G caller act) → caller ≤ 63
@@ -170,6 +171,12 @@ group_within : (b : Bool) (displacement : ℕ) → displacement ≤ MOST_DISPLAC
 group_within true displacement small = small
 group_within false displacement small = small
 
+group_span : (h : Inn) (span : Span) (rooms amount : ℕ) → is_command_in_range h (Group span rooms amount) ≡ true → (span.from < span.to) × (span.to ≤ length h.rooms)
+group_span h span rooms amount range =
+    let p = and_parts _ _ range in
+    let s = and_parts _ _ p.0 in
+    (below _ _ s.0, up_to _ _ s.1)
+
 command_reply_within : (h : Inn) (G : History) (caller : ℕ) (c : Command) (r : Reply) → IsHouse h → IsTame h G → IsTrue (is_command_in_range h c) → IsCommandReply h G caller c r → IsReplyWithin r
 command_reply_within h G caller (Book stay) r house tame range is =
     let inside : stay < length h.stays = below _ _ range in
@@ -187,17 +194,11 @@ command_reply_within h G caller (Resize night rooms) r house tame range is =
     subst IsReplyWithin (sym is) (resized_within (nat_lt rooms (sold_at h G night)) (sold_at h G night) (omega (arith, tame.sound.sold night inside, tame.sound.rooms night inside)))
 command_reply_within h G caller (Group span rooms amount) r house tame range is = go (first_short (rooms_left_at h G) span rooms) refl is
   where
-    ordered : span.from < span.to
-    ordered = below _ _ (and_parts _ _ (and_parts _ _ range).0).0
-
-    inside : span.to ≤ length h.rooms
-    inside = up_to _ _ (and_parts _ _ (and_parts _ _ range).0).1
-
     go : (full : Option ℕ) → first_short (rooms_left_at h G) span rooms ≡ full → MatchOption full (IsPricedReply h G span rooms amount r) (λ night. r ≡ GroupNoRoom night) → IsReplyWithin r
     go None none priced =
         subst IsReplyWithin (sym priced.answers) (group_within (nat_lt (h.limits.unit * amount) priced.displacement) priced.displacement
         (displacement_is_small (instance_of h G) span (h.limits.unit * rooms) priced.displacement (keeps_limits h G house tame.sound).instance priced.displaces))
-    go (Some night) some e = subst IsReplyWithin (sym e) (night_within h G span rooms night (omega (arith, ordered)) (omega (arith, inside, house.instance.nights)) some)
+    go (Some night) some e = subst IsReplyWithin (sym e) (let span_is = group_span h span rooms amount range in night_within h G span rooms night (omega (arith, span_is.0)) (omega (arith, span_is.1, house.instance.nights)) some)
 
 reply_within : (h : Inn) (G : History) (caller : ℕ) (a : Act) (r : Reply) → IsHouse h → IsTame h G → IsTrue (is_in_range h a) → IsReply h G caller a r → IsReplyWithin r
 reply_within h G caller (Do command) r house tame range is = command_reply_within h G caller command r house tame range is

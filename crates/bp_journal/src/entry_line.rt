@@ -4,6 +4,7 @@ ghost use Rattle.bp_core.specs.declared.line.Entry.{Entry};
 ghost use Rattle.bp_text.specs.Numbers.{spelled};
 ghost use Rattle.bp_text.specs.Words.{Word};
 ghost use Rattle.bp_journal.specs.Journals.{entry_words, is_form};
+ghost use Rattle.bp_journal.specs.Limits.{IsHalfWord};
 ghost use Rattle.bp_journal.specs.Found.{IsFound};
 ghost use Rattle.bp_journal.specs.Told.{IsEntryTold, IsEntryFound};
 
@@ -35,9 +36,10 @@ pub(crate) fn entry_line(line: &[u8], place: u64, version: Version) -> Found
 fn is_place(words: &mut Words<'_>, place: u64) -> bool
     ensures { MatchBool result (words.old ≡ spelled place ∷ words.new) ((more : List Word) → words.old ≡ spelled place ∷ more → ⊥) }
 {
-    match words.number(u128::from(place)) {
+    let wanted = u128::from(place);
+    match words.number(wanted) {
         None => false,
-        Some(number) => is_just(number, u128::from(place)),
+        Some(number) => is_just(number, wanted),
     }
 }
 
@@ -71,6 +73,7 @@ fn told(words: &mut Words<'_>, version: Version) -> Option<(Counted, ToldAct, To
 
 /// The entry that was told, unless a number of it is above its limit.
 fn found(caller: Counted, act: ToldAct, reply: ToldReply) -> Found
+    requires { IsHalfWord caller.value }
     ensures { (e : Entry) → IsEntryTold e caller act reply → IsEntryFound e result }
 {
     if is_either(is_either(caller.great, act.great), reply.great) {

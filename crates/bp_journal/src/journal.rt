@@ -43,6 +43,7 @@ impl Journal {
 
     /// Adds a line, which has a certificate exactly where its act is a Publish. After want of memory the lines are as
     /// before.
+    #[tactic(auto, using(crate::proofs::StoredLemmas::push_plain, crate::proofs::StoredLemmas::push_certified))]
     pub fn push(&mut self, line: Line) -> Result<(), AllocError>
         requires { is_some line.certificate ≡ is_some (published_position line.entry.act) }
         ensures added { OnOk result (self.new ≡ self.old ++ line ∷ []) }
@@ -50,10 +51,11 @@ impl Journal {
     {
         let entry = line.entry;
         self.entries.reserve(1)?;
-        match line.certificate {
-            None => {}
-            Some(certificate) => self.certificates.push(certificate)?,
-        }
+        let Some(certificate) = line.certificate else {
+            self.entries.push_reserved(entry);
+            return Ok(());
+        };
+        self.certificates.push(certificate)?;
         self.entries.push_reserved(entry);
         Ok(())
     }

@@ -245,9 +245,12 @@ fn the_lines_of_a_journal_are_given_in_order(rt: HostRuntime) -> Result<(), Fail
         ),
     ];
     for (entry, value) in &wants {
-        let line = lines.next();
-        assert!(rt; line.as_ref().map(|line| line.entry) == Some(*entry));
-        assert!(rt; line.and_then(|line| line.certificate).map(|c| c.value) == *value);
+        let Some(line) = lines.next() else {
+            return Err(Fail::new("a line too few"));
+        };
+        assert!(rt; line.entry == *entry);
+        let got = line.certificate.as_ref().map(|c| c.value);
+        assert!(rt; got == *value);
     }
     assert!(rt; lines.next().is_none());
     Ok(())
@@ -403,10 +406,10 @@ fn each_kind_of_line_tells_its_entry(rt: HostRuntime) -> Result<(), Fail> {
     for (line, want) in &LINES {
         let text = text_with(alloc, &["journal 2", "", "end"], 2, line)?;
         let mut lines = read(alloc, &text)?.into_lines();
-        assert!(rt;
-            lines.next().map(|line| line.entry) == Some(*want),
-            "{line}"
-        );
+        let Some(told) = lines.next() else {
+            return Err(Fail::new("no line"));
+        };
+        assert!(rt; told.entry == *want, "{line}");
     }
     Ok(())
 }

@@ -1,0 +1,16 @@
+pub mod Cutting
+pub mod Places
+pub mod Opening
+pub mod Ending
+pub mod Closing
+pub mod Finishing
+pub mod Running
+pub mod Enrolling
+pub mod Crewing
+pub mod Starting
+pub mod LastRound
+pub mod Composing
+pub mod Scripting
+pub mod Counting
+pub mod Totals
+pub mod Room

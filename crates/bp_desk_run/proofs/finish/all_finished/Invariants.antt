@@ -1,0 +1,10 @@
+use Rattle.std.proofs.Common.{◌≡◌, ℕ, ◌-◌, ◌<◌, ◌≤◌, length, slice_index_or}
+use Rattle.bp_optimise.specs.declared.sessions.Stop.TheVariants.{Finished}
+use Rattle.bp_desk_run.specs.declared.actor.Actor.{Actor}
+use Rattle.bp_desk_run.proofs.finish.all_finished.Given as goal
+
+abbrev pub invariant-loop-i : goal.invariant-loop-i
+invariant-loop-i l = (l.i ≤ length l.actors) × ((k : ℕ) (a : Actor) → k < l.i → (slice_index_or l.actors k a).stop ≡ Finished)
+
+abbrev pub decreases-loop-i : goal.decreases-loop-i
+decreases-loop-i l = length l.actors - l.i

@@ -1,0 +1,7 @@
+pub mod DeskRun
+pub mod Laws
+pub mod Beginnings
+pub mod Endings
+pub mod Closing
+pub mod Actors
+pub mod Finals

@@ -1,16 +1,13 @@
 -- What an actor's looks and calls leave.
-use Rattle.std.proofs.Common.{◌≡◌, ℕ, ◌<◌, ◌≤◌, Bool, true, false, cond, ◌&&◌, nat_lt, ◌==◌, List, [], ◌∷◌, ◌++◌, length, take, All, Option, Some, None, MatchOption, refl, sym, ap, subst, ◌∙◌, arith, append-nil, append_assoc, length-append}
+use Rattle.std.proofs.Common.{◌≡◌, ℕ, ◌<◌, ◌≤◌, Bool, true, false, cond, ◌&&◌, nat_lt, ◌==◌, [], ◌∷◌, ◌++◌, length, Some, MatchOption, refl, sym, ap, subst, ◌∙◌, arith, append-nil, length-append}
 use Rattle.std.specs.Arc.{arc_value}
-use Rattle.std.specs.List.{filter_map}
-use Rattle.std.proofs.lemmas.List.Elements.{All-append, All-nil, All-cons, All-weaker, filter_map-append}
+use Rattle.std.proofs.lemmas.List.Elements.{All-nil, All-cons, filter_map-append}
 use Rattle.std.proofs.lemmas.Bool.{ltb-true, ltb-false, eqb-true}
 use Rattle.bp_types.specs.House.{Inn}
 use Rattle.bp_types.specs.Claim.{Claim}
 use Rattle.bp_types.specs.Optimum.{AreLeastPrices}
-use Rattle.bp_types.specs.declared.command.Command.{Command}
 use Rattle.bp_turn.specs.Prefix.{IsPrefix}
 use Rattle.bp_core.specs.declared.line.Line.{Line}
-use Rattle.bp_core.specs.declared.line.Act.{Act}
 use Rattle.bp_core.specs.declared.line.Act.TheVariants.{Publish as PublishAct}
 use Rattle.bp_core.specs.declared.line.Reply.{Reply}
 use Rattle.bp_core.specs.declared.call.Call.{Call}
@@ -19,18 +16,17 @@ use Rattle.bp_core.specs.declared.call.Answer.{Answer}
 use Rattle.bp_core.specs.declared.call.Answer.TheVariants.{Logged, Superseded, PublicationsFull}
 use Rattle.bp_core.specs.Lines.{History, calls, is_by, is_publish, command_of, last_position, vectors}
 use Rattle.bp_core.specs.Changes.{changes_between}
-use Rattle.bp_core.specs.Instance.{instance_at}
-use Rattle.bp_core.specs.Acting.{act_of, certificate_of, line_of, IsLogged, IsRefused, IsAnswered, publish_refusal, refuse_if}
+use Rattle.bp_core.specs.Acting.{act_of, certificate_of, line_of, IsLogged, IsRefused, IsAnswered, refuse_if}
 use Rattle.bp_core.specs.Legal.{IsLegal}
 use Rattle.bp_desk.specs.Passes.{PassState}
-use Rattle.bp_desk.specs.Calling.{HasRead, IsCalled, diary}
+use Rattle.bp_desk.specs.Calling.{IsCalled, diary}
 use Rattle.bp_core.proofs.Growing.{instance_stays}
 use Rattle.bp_desk.proofs.Answered.{by_answer, calls_push}
-use Rattle.bp_optimise.specs.Following.{HasLooked, AddsTurns, HasOwn, IsOffered, AsksFor}
-use Rattle.bp_optimise.proofs.Leading.{prefix_le, prefix_on, adds_turns, turns_later, looked, looked_again, looked_not}
+use Rattle.bp_optimise.specs.Following.{HasLooked, HasOwn, IsOffered, AsksFor}
+use Rattle.bp_optimise.proofs.Leading.{prefix_on, adds_turns, looked_not}
 use Rattle.bp_optimise.proofs.Rounding.{called_begins}
 use Rattle.bp_optimise.specs.Vectors.{IsLeastVector, OwnVectors}
-use Rattle.bp_optimise.specs.Acts.{IsActor, HasActed, commands_in}
+use Rattle.bp_optimise.specs.Acts.{HasActed, commands_in}
 use Rattle.bp_optimise.proofs.Owning.{own_push, own_longer}
 
 abbrev pub NoCommand : PassState → PassState → Type 0

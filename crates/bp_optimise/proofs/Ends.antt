@@ -1,20 +1,16 @@
 -- The vectors of a caller from its enrolment to the end of a run.
-use Rattle.std.proofs.Common.{◌≡◌, ◌⊎◌, inl, inr, ℕ, ◌+◌, ◌<◌, ◌≤◌, ◌==◌, Bool, true, false, ◌&&◌, cond, List, [], ◌∷◌, ◌++◌, length, take, All, refl, sym, ap, subst, ◌∙◌, arith, eq-eqb}
-use mathlib.Core.Logic.{dite}
-use native.Mathlib.Decide.{ℕ_discrete}
-use Rattle.std.proofs.lemmas.Bool.{ne_eqb}
+use Rattle.std.proofs.Common.{◌≡◌, ℕ, [], ◌∷◌, ◌++◌, refl, sym, ap, ◌∙◌, arith}
 use Rattle.std.proofs.lemmas.List.Elements.{filter-append}
 use Rattle.bp_types.specs.House.{Inn}
 use Rattle.bp_turn.specs.Prefix.{IsPrefix}
-use Rattle.bp_core.specs.declared.line.Line.{Line}
 use Rattle.bp_core.specs.declared.line.Reply.TheVariants.{Done}
 use Rattle.bp_core.specs.declared.call.Call.TheVariants.{Enrol}
 use Rattle.bp_core.specs.declared.call.Answer.TheVariants.{Logged}
-use Rattle.bp_core.specs.Lines.{History, no_line, line_at, is_by, is_publish, calls}
+use Rattle.bp_core.specs.Lines.{History, is_by, calls}
 use Rattle.bp_core.specs.Legal.{IsLegal}
 use Rattle.bp_desk.specs.Passes.{PassState, newcomer}
 use Rattle.bp_desk.specs.Calling.{IsCalled}
-use Rattle.bp_optimise.specs.Vectors.{IsLeastVector, OwnVectors}
+use Rattle.bp_optimise.specs.Vectors.{OwnVectors}
 use Rattle.bp_optimise.specs.Acts.{IsActor}
 use Rattle.bp_optimise.proofs.Owning.{own_quiet, own_longer}
 use Rattle.bp_optimise.proofs.Doing.{call_acts}

@@ -1,5 +1,5 @@
 -- An optimiser goes with a pass that has seen more.
-use Rattle.std.proofs.Common.{◌≡◌, ℕ, ◌≤◌, length, refl, sym, ap, ◌∙◌, arith}
+use Rattle.std.proofs.Common.{◌≡◌, sym, ap, ◌∙◌, arith}
 use Rattle.bp_turn.specs.Prefix.{IsPrefix}
 use Rattle.bp_types.specs.House.{Inn}
 use Rattle.bp_core.specs.Lines.{History}

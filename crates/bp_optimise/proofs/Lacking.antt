@@ -1,5 +1,5 @@
 -- Quotes, and nights that lack the units of a group.
-use Rattle.std.proofs.Common.{◌≡◌, ℕ, ◌+◌, ◌*◌, ◌-◌, ◌≤◌, ◌<◌, arith, All, Option, Some, None, nat_lt, length, slice_index, slice_index_or}
+use Rattle.std.proofs.Common.{◌≡◌, ℕ, ◌-◌, ◌≤◌, ◌<◌, arith, Some, nat_lt, length, slice_index}
 use Rattle.std.proofs.lemmas.Bool.{ltb-true}
 use Rattle.bp_types.specs.declared.stay.Span.{Span}
 use Rattle.bp_types.specs.declared.limits.TheConstants.{MOST_UNITS}

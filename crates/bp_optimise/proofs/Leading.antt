@@ -7,7 +7,7 @@ use Rattle.bp_core.specs.Lines.{History, calls}
 use Rattle.bp_core.specs.Legal.{IsLegal}
 use Rattle.bp_desk.specs.Passes.{PassState}
 use Rattle.bp_desk.specs.Calling.{HasRead}
-use Rattle.bp_optimise.specs.Following.{HasLooked, HasCaughtUp, AddsTurns, HasOwn}
+use Rattle.bp_optimise.specs.Following.{HasLooked, HasCaughtUp, AddsTurns}
 
 pub prefix_le : (G H : History) → IsPrefix G H → length G ≤ length H
 prefix_le G H (rest, is) = let n = ap length is in omega (arith, length-append G rest)

@@ -1,13 +1,11 @@
 -- A round whose board was answered.
-use Rattle.std.proofs.Common.{◌≡◌, ℕ, ◌≤◌, List, [], ◌∷◌, ◌++◌, length, refl, sym, ap, subst, ◌∙◌, arith, append_assoc, append-nil, length-append, Result, Ok, Err, OnErr}
-use Rattle.bp_types.specs.House.{Inn}
+use Rattle.std.proofs.Common.{◌≡◌, ℕ, ◌≤◌, [], ◌∷◌, ◌++◌, length, ap, subst, ◌∙◌, append_assoc, Result, Ok, Err, OnErr}
 use Rattle.bp_turn.specs.Prefix.{IsPrefix}
 use Rattle.bp_core.specs.declared.call.Call.{Call}
 use Rattle.bp_core.specs.declared.call.Answer.{Answer}
 use Rattle.bp_core.specs.Acting.{line_of}
 use Rattle.bp_core.specs.Lines.{History, last_position}
 use Rattle.bp_core.specs.Changes.{changes_after}
-use Rattle.bp_core.specs.Instance.{instance_at}
 use Rattle.bp_desk.specs.Passes.{PassState}
 use Rattle.bp_desk.specs.Calling.{HasRead, IsCalled, diary}
 use Rattle.bp_optimise.proofs.Following.{goes_later}

@@ -1,9 +1,7 @@
 -- Searches of several restarts, added up.
-use Rattle.std.proofs.Common.{◌≡◌, ℕ, ◌+◌, ◌-◌, ◌*◌, ◌≤◌, ◌<◌, min, List, [], ◌∷◌, ◌++◌, length, refl, sym, ap, subst, ◌∙◌, arith, length-append}
+use Rattle.std.proofs.Common.{◌≡◌, ℕ, ◌+◌, ◌-◌, ◌≤◌, [], length, sym, ap, subst, ◌∙◌, arith, length-append}
 use Rattle.std.specs.List.{flat_map, range_with_len}
 use Rattle.bp_types.specs.House.{Inn}
-use Rattle.bp_types.specs.declared.change.Change.{Change}
-use Rattle.bp_types.specs.Program.{Program}
 use Rattle.bp_types.specs.Changes.{changed_by_all}
 use Rattle.bp_types.proofs.Appending.{changes_append}
 use Rattle.bp_paths.specs.Paths.{Serves}

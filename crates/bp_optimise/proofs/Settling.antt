@@ -1,5 +1,5 @@
 -- How the turns of a worker are settled.
-use Rattle.std.proofs.Common.{◌≡◌, ◌⊎◌, inl, inr, ℕ, ◌<◌, ◌≤◌, Bool, true, false, ◌||◌, cond, List, [], ◌∷◌, ◌++◌, length, take, drop, count_by, All, is_some, refl, sym, ap, subst, ◌∙◌, arith, append-nil, append_assoc, length-append}
+use Rattle.std.proofs.Common.{◌≡◌, ◌⊎◌, inl, inr, ℕ, ◌<◌, ◌≤◌, Bool, true, false, ◌||◌, cond, List, [], ◌∷◌, ◌++◌, length, take, count_by, All, is_some, refl, sym, ap, subst, ◌∙◌, arith, append-nil, append_assoc, length-append}
 use Rattle.std.specs.List.{list_any, range_with_len}
 use Rattle.std.proofs.Math.Seq.{take-length}
 use Rattle.std.proofs.lemmas.List.{take-append-le}
@@ -9,15 +9,13 @@ use Rattle.std.proofs.lemmas.List.FromFn.{length-range_with_len}
 use Rattle.std.proofs.lemmas.List.Sums.{count_by-le-length, sum_by-cons}
 use Rattle.bp_types.specs.House.{Inn}
 use Rattle.bp_turn.specs.Prefix.{IsPrefix}
-use Rattle.bp_core.specs.declared.line.Line.{Line}
-use Rattle.bp_core.specs.declared.line.Act.TheVariants.{Publish as PublishAct}
 use Rattle.bp_core.specs.declared.line.Reply.{Reply}
 use Rattle.bp_core.specs.declared.line.Reply.TheVariants.{Done, Vector}
 use Rattle.bp_core.specs.declared.call.Call.TheVariants.{Leave}
 use Rattle.bp_core.specs.declared.call.Answer.{Answer}
 use Rattle.bp_core.specs.declared.call.Answer.TheVariants.{Logged, Superseded as LaterThere, PublicationsFull as NoneLeft}
 use Rattle.bp_core.specs.Lines.{History, is_publish, last_position, published_position, vectors}
-use Rattle.bp_core.specs.Callers.{has_left, is_leave_by, left_of}
+use Rattle.bp_core.specs.Callers.{has_left, is_leave_by}
 use Rattle.bp_core.specs.Changes.{changes_after}
 use Rattle.bp_core.specs.Acting.{line_of}
 use Rattle.bp_core.specs.Legal.{IsLegal}
@@ -28,17 +26,16 @@ use Rattle.bp_desk.specs.Calling.{HasRead, IsCalled, AddsCall, diary}
 use Rattle.bp_desk.proofs.Answered.{by_answer}
 use Rattle.bp_optimise.specs.declared.round.Round.{Round}
 use Rattle.bp_optimise.specs.declared.round.Round.TheVariants.{Unchanged, Published, Superseded, PublicationsFull}
-use Rattle.bp_optimise.specs.Following.{GoesWith, HasLooked, AddsTurns, HasOwn, IsOffered}
+use Rattle.bp_optimise.specs.Following.{HasLooked}
 use Rattle.bp_optimise.specs.Rounds.{HasOffered, IsRound, is_superseded}
 use Rattle.bp_optimise.proofs.Leading.{prefix_le, adds_turns, turns_later, looked, looked_again}
 use Rattle.bp_core.specs.Counting.{IsFollowed}
 use Rattle.bp_core.proofs.Vectors.{turns_settle}
-use Rattle.bp_optimise.specs.Acts.{IsActor, HasActed, commands_in}
+use Rattle.bp_optimise.specs.Acts.{HasActed, commands_in}
 use Rattle.bp_optimise.specs.Works.{HaveLeft, IsSettledTurn, AddsSettled, IsWork}
 use Rattle.bp_optimise.specs.Stepping.{SettlesAll, IsStep}
-use Rattle.bp_optimise.specs.declared.worker.Next.TheVariants.{Leaves, Rounds, NoMemory}
-use Rattle.bp_optimise.specs.Following.{Optimising}
-use Rattle.bp_optimise.proofs.Doing.{NoCommand, look_acts, acts_again, acts_not, offer_acts, call_acts, by_publication, commands_push}
+use Rattle.bp_optimise.specs.declared.worker.Next.TheVariants.{Leaves, Rounds}
+use Rattle.bp_optimise.proofs.Doing.{NoCommand, look_acts, acts_again, offer_acts, call_acts, by_publication, commands_push}
 
 -- sessions that have left
 or_first : (a b : Bool) → a ≡ true → (a || b) ≡ true

@@ -1,10 +1,9 @@
 -- What a session's commands leave, and why it stops.
-use Rattle.std.proofs.Common.{◌≡◌, ℕ, zero, suc, ◌+◌, ◌*◌, ◌<◌, ◌≤◌, Bool, true, false, ◌||◌, nat_le, nat_lt, ◌==◌, cond, List, [], ◌∷◌, ◌++◌, length, take, drop, count_by, slice_index_or, Option, Some, None, Ok, Err, is_some, MatchOption, IsTrue, refl, sym, ap, subst, ◌∙◌, arith, append-nil, append_assoc, length-append}
+use Rattle.std.proofs.Common.{◌≡◌, ℕ, ◌+◌, ◌*◌, ◌<◌, ◌≤◌, Bool, true, false, ◌||◌, nat_le, ◌==◌, cond, List, [], ◌∷◌, ◌++◌, length, take, count_by, slice_index_or, Option, Some, None, Ok, Err, is_some, MatchOption, IsTrue, refl, sym, ap, subst, ◌∙◌, arith, append-nil, append_assoc}
 use mathlib.Core.Logic.{dite}
 use native.Mathlib.Decide.{dec_lt}
 use Rattle.std.specs.List.{list_any}
-use Rattle.std.proofs.Math.Seq.{take-length}
-use Rattle.std.proofs.lemmas.List.{take_more, get_or_append_left}
+use Rattle.std.proofs.lemmas.List.{take_more}
 use Rattle.std.proofs.lemmas.List.Sums.{sum_by-cons}
 use Rattle.std.proofs.lemmas.Bool.{eqb-true, leb-true, ltb-true, and_parts}
 use Rattle.std.proofs.lemmas.List.FromFn.{length-map-range_with_len}
@@ -18,17 +17,17 @@ use Rattle.bp_turn.specs.Prefix.{IsPrefix}
 use Rattle.bp_core.specs.declared.line.Line.{Line}
 use Rattle.bp_core.specs.declared.line.Reply.{Reply}
 use Rattle.bp_core.specs.declared.line.Reply.TheVariants.{Done}
-use Rattle.bp_core.specs.declared.call.Call.TheVariants.{Do, Publish, Enrol, Leave}
+use Rattle.bp_core.specs.declared.call.Call.TheVariants.{Do, Leave}
 use Rattle.bp_core.specs.declared.call.Answer.{Answer}
 use Rattle.bp_core.specs.declared.call.Answer.TheVariants.{Logged, HistoryFull as NoEntry, Behind, Unquoted, Stale, Superseded as LaterThere, PublicationsFull as NoneLeft}
 use Rattle.bp_core.specs.Lines.{History, is_command, is_publish, commands, vectors, last_position}
-use Rattle.bp_core.specs.Changes.{is_change, changes_after}
+use Rattle.bp_core.specs.Changes.{changes_after}
 use Rattle.bp_types.specs.Spans.{first_short}
 use Rattle.bp_core.specs.Instance.{rooms_left_at, instance_at, units_left_at}
-use Rattle.bp_core.specs.Acting.{line_of, refusal, command_refusal, quote_refusal, refuse_if, IsLogged, IsRefused, IsAnswered, IsQuoteRight, IsCallRight}
+use Rattle.bp_core.specs.Acting.{line_of, command_refusal, quote_refusal, refuse_if, IsLogged, IsRefused, IsAnswered, IsCallRight}
 use Rattle.bp_core.specs.Legal.{IsLegal, is_command_in_range}
 use Rattle.bp_core.proofs.Pushes.{count-push}
-use Rattle.bp_core.proofs.Counts.{commands_fit, vectors_fit}
+use Rattle.bp_core.proofs.Counts.{commands_fit}
 use Rattle.bp_desk.specs.Passes.{PassState}
 use Rattle.bp_desk.specs.Calling.{IsCalled, AddsCall, diary, is_logged}
 use Rattle.bp_desk.specs.Typed.{book_answer, group_answer}
@@ -39,7 +38,7 @@ use Rattle.bp_desk.specs.declared.replies.GroupStop.TheVariants.{HistoryFull as 
 use Rattle.bp_desk.specs.declared.replies.GroupReply.{GroupReply}
 use Rattle.bp_desk.specs.declared.replies.GroupReply.TheVariants.{Accepted as GroupBooked, TooLow as AmountTooLow, NoRoom as NoRoomsLeft}
 use Rattle.bp_optimise.specs.Following.{Optimising}
-use Rattle.bp_optimise.specs.Following.{GoesWith, HasLooked}
+use Rattle.bp_optimise.specs.Following.{GoesWith}
 use Rattle.bp_core.proofs.Vectors.{vector_between}
 use Rattle.bp_optimise.specs.Acts.{HasActed, commands_in}
 use Rattle.bp_optimise.specs.declared.tries.Outcome.{Outcome}

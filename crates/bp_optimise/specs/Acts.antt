@@ -1,5 +1,5 @@
 -- What an actor has done with its pass.
-use Rattle.std.specs.Prelude.{◌≡◌, ℕ, List, [], ◌++◌}
+use Rattle.std.specs.Prelude.{◌≡◌, ℕ, List}
 use Rattle.std.specs.List.{filter_map}
 use Rattle.bp_types.specs.declared.command.Command.{Command}
 use Rattle.bp_turn.specs.Prefix.{IsPrefix}

@@ -1,5 +1,5 @@
 -- What contracts see of an optimiser, how it goes with what a pass has seen, and what it does with a pass.
-use Rattle.std.specs.Prelude.{◌≡◌, ◌≤◌, ℕ, List, [], ◌++◌, All, length, Some}
+use Rattle.std.specs.Prelude.{◌≡◌, ◌≤◌, ℕ, List, ◌++◌, All, length, Some}
 use Rattle.bp_types.specs.Claim.{Claim}
 use Rattle.bp_types.specs.House.{Inn}
 use Rattle.bp_types.specs.Optimum.{AreLeastPrices}

@@ -1,4 +1,4 @@
-use Rattle.std.proofs.Common.{rules, refl, ◌≡◌, Ok, None, ap}
+use Rattle.std.proofs.Common.{rules, Ok, None, ap}
 use Rattle.bp_types.specs.declared.command.Command.TheVariants.{Book}
 use Rattle.bp_core.specs.declared.call.Call.TheVariants.{Do}
 use Rattle.bp_core.specs.declared.call.Answer.TheVariants.{Behind, HistoryFull as NoEntry}

@@ -1,19 +1,18 @@
-use Rattle.std.proofs.Common.{rules, refl, ◌≡◌, ◌*◌, Ok, Err, Option, IsTrue, sym, ap, subst, ◌∙◌}
+use Rattle.std.proofs.Common.{rules, Ok, Err, IsTrue, sym, ap, subst, ◌∙◌}
 use Rattle.bp_types.specs.House.{Inn}
 use Rattle.bp_types.specs.declared.command.Command.TheVariants.{Group}
 use Rattle.bp_core.specs.declared.call.Call.TheVariants.{Do}
-use Rattle.bp_core.specs.declared.call.Answer.TheVariants.{HistoryFull as NoEntry, Unquoted, Stale}
+use Rattle.bp_core.specs.declared.call.Answer.TheVariants.{HistoryFull as NoEntry}
 use Rattle.bp_core.specs.Legal.{is_command_in_range}
 use Rattle.bp_desk.specs.Calling.{IsCalled, AddsCall}
 use Rattle.bp_desk.specs.Typed.{group_answer}
 use Rattle.bp_optimise.specs.Following.{HasLooked}
-use Rattle.bp_optimise.specs.Acts.{HasActed, commands_in}
-use Rattle.bp_optimise.specs.Quoting.{IsQuoteOf}
+use Rattle.bp_optimise.specs.Acts.{commands_in}
 use Rattle.bp_optimise.specs.declared.tries.Outcome.TheVariants.{Made, HistoryFull}
-use Rattle.bp_optimise.specs.Tries.{GoesOn, MakesNone}
+use Rattle.bp_optimise.specs.Tries.{MakesNone}
 use Rattle.bp_optimise.proofs.Leading.{caught_up_looked}
 use Rattle.bp_optimise.proofs.Doing.{look_acts}
-use Rattle.bp_optimise.proofs.Stopping.{acts_by_command, acts_twice, is_made, is_full, group_logged, group_stops, group_span, quote_right, outcome_after}
+use Rattle.bp_optimise.proofs.Stopping.{acts_by_command, acts_twice, is_made, is_full, group_logged, group_stops, group_span, outcome_after}
 use Rattle.bp_optimise.proofs.sessions.attempt_group.Goals as goal
 
 pub quote_units-requires : goal.quote_units-requires

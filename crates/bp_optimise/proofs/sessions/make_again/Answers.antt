@@ -1,4 +1,4 @@
-use Rattle.std.proofs.Common.{rules, refl, ◌≡◌, IsTrue, sym, ap, subst, ◌∙◌}
+use Rattle.std.proofs.Common.{rules, refl, IsTrue, sym, ap, subst, ◌∙◌}
 use Rattle.bp_types.specs.House.{Inn}
 use Rattle.bp_core.specs.Legal.{is_command_in_range}
 use Rattle.bp_optimise.specs.declared.tries.Attempt.TheVariants.{Again}

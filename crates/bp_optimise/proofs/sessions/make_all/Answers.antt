@@ -1,4 +1,4 @@
-use Rattle.std.proofs.Common.{rules, ◌≡◌, ◌+◌, ◌<◌, ◌≤◌, arith, length}
+use Rattle.std.proofs.Common.{rules, arith}
 use Rattle.bp_optimise.specs.Acts.{commands_in}
 use Rattle.bp_optimise.proofs.Doing.{acts_again}
 use Rattle.bp_optimise.proofs.Stopping.{made_on}

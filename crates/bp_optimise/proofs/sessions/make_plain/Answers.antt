@@ -1,4 +1,4 @@
-use Rattle.std.proofs.Common.{rules, refl, ◌≡◌, None}
+use Rattle.std.proofs.Common.{rules, refl, None}
 use Rattle.bp_core.specs.declared.call.Call.TheVariants.{Do}
 use Rattle.bp_core.specs.declared.call.Answer.TheVariants.{Logged}
 use Rattle.bp_desk.specs.Calling.{AddsCall}

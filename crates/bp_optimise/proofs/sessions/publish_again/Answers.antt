@@ -1,4 +1,4 @@
-use Rattle.std.proofs.Common.{rules, refl, ◌≡◌, ap}
+use Rattle.std.proofs.Common.{rules, ap}
 use Rattle.bp_optimise.specs.Following.{HasLooked}
 use Rattle.bp_optimise.specs.Rounds.{IsRound}
 use Rattle.bp_optimise.specs.Acts.{commands_in}

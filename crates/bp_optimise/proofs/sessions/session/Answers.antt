@@ -1,4 +1,3 @@
-use Rattle.std.proofs.Common.{rules, refl}
 use Rattle.bp_optimise.proofs.Stopping.{session_done}
 use Rattle.bp_optimise.proofs.sessions.session.Goals as goal
 

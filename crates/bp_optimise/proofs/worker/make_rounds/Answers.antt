@@ -1,7 +1,6 @@
-use Rattle.std.proofs.Common.{rules, refl, ◌≡◌, false, sym, ap, subst, ◌∙◌}
-use Rattle.bp_optimise.specs.Works.{AddsSettled}
+use Rattle.std.proofs.Common.{rules, refl, ◌∙◌}
 use Rattle.bp_optimise.specs.Stepping.{IsStep}
-use Rattle.bp_optimise.specs.declared.worker.Next.TheVariants.{Leaves, Rounds, NoMemory}
+use Rattle.bp_optimise.specs.declared.worker.Next.TheVariants.{Leaves, Rounds}
 use Rattle.bp_optimise.proofs.Doing.{acts_again, acts_not}
 use Rattle.bp_optimise.proofs.Settling.{settles_on, leaves_settled, settled_none}
 use Rattle.bp_optimise.proofs.worker.make_rounds.Goals as goal

@@ -1,4 +1,3 @@
-use Rattle.std.proofs.Common.{rules, refl}
 use Rattle.bp_optimise.proofs.Settling.{work_done}
 use Rattle.bp_optimise.proofs.worker.work.Goals as goal
 

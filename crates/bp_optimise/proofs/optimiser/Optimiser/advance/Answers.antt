@@ -1,4 +1,4 @@
-use Rattle.std.proofs.Common.{◌≡◌, ◌≤◌, length, arith}
+use Rattle.std.proofs.Common.{arith}
 use Rattle.bp_optimise.proofs.Leading.{prefix_le}
 use Rattle.bp_optimise.proofs.Searches.{counts_later}
 use Rattle.bp_optimise.proofs.optimiser.Optimiser.advance.Goals as goal

@@ -1,4 +1,4 @@
-use Rattle.std.proofs.Common.{◌≡◌, ◌<◌, ◌≤◌, length, arith}
+use Rattle.std.proofs.Common.{arith}
 use Rattle.bp_optimise.proofs.Leading.{looked_not, looked_again}
 use Rattle.bp_optimise.proofs.Searches.{lead_still, lead_further, counts_still, counts_further}
 use Rattle.bp_optimise.proofs.optimiser.Optimiser.advance_to.Goals as goal

@@ -1,4 +1,4 @@
-use Rattle.std.proofs.Common.{◌≡◌, ◌-◌, ◌≤◌, length}
+use Rattle.std.proofs.Common.{◌-◌, ◌≤◌}
 use Rattle.bp_optimise.specs.Following.{GoesWith, HasLooked}
 use Rattle.bp_optimise.specs.Searching.{LeadOn, CountsCatchingUp}
 use Rattle.bp_optimise.proofs.optimiser.Optimiser.advance_to.Given as goal

@@ -1,8 +1,7 @@
-use Rattle.std.proofs.Common.{rules, ◌≡◌, ◌*◌, ◌<◌, ◌+◌, ◌≤◌, Some, sym, ap, subst, ◌∙◌, arith, slice_index}
+use Rattle.std.proofs.Common.{rules, ◌≡◌, ◌*◌, ◌<◌, Some, arith, slice_index}
 use Rattle.bp_types.specs.declared.limits.TheConstants.{MOST_UNITS}
 use Rattle.bp_types.specs.Spans.{first_short}
 use Rattle.bp_types.specs.Limits.{IsWithinLimits}
-use Rattle.bp_optimise.specs.Quoting.{LacksUnits}
 use Rattle.bp_optimise.proofs.Lacking.{short_lacks, far_lacks}
 use Rattle.bp_optimise.proofs.optimiser.Optimiser.quote_units.Goals as goal
 

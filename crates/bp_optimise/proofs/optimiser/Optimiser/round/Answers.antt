@@ -1,4 +1,4 @@
-use Rattle.std.proofs.Common.{◌≡◌, ◌≤◌, length, arith, ap, ◌∙◌}
+use Rattle.std.proofs.Common.{◌≡◌, arith, ap, ◌∙◌}
 use Rattle.bp_desk.specs.Passes.{PassState}
 use Rattle.bp_turn.specs.Prefix.{IsPrefix}
 use Rattle.bp_core.specs.declared.line.Line.{Line}

@@ -1,5 +1,5 @@
 -- From the words of a line to the entry that it tells.
-use Rattle.std.proofs.Common.{◌≡◌, ℕ, ◌+◌, ◌==◌, ◌⊎◌, ◌<◌, ◌≤◌, ◌&&◌, refl, ap, sym, subst, ◌∙◌, arith, Bool, true, false, List, [], ◌∷◌, ◌++◌, length, map, append-nil, inl, inr, length-append}
+use Rattle.std.proofs.Common.{◌≡◌, ℕ, ◌==◌, ◌⊎◌, ◌<◌, ◌≤◌, ◌&&◌, refl, ap, sym, subst, ◌∙◌, arith, Bool, true, false, List, [], ◌∷◌, ◌++◌, length, map, append-nil, inl, inr, length-append}
 use Rattle.std.specs.Prelude.{not, MatchBool}
 use Rattle.std.proofs.lemmas.Bool.{and_parts, and_from, cases_Bool, eqb-true, eqb-false, cond-true, cond-false}
 use Rattle.std.proofs.lemmas.List.{length-map}

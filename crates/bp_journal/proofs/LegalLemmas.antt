@@ -19,8 +19,7 @@ use Rattle.bp_core.specs.Instance.{rate_of, span_of, rooms_left_at, sold_at}
 use Rattle.bp_core.specs.Legal.{IsLegalLine, IsCertified}
 use Rattle.bp_core.specs.Lines.{History, is_accepted, is_cancellation, nth_book, last_number}
 use Rattle.bp_core.proofs.Prefixes.{at_each_position}
-use Rattle.bp_journal.specs.declared.version.Version.{Version}
-use Rattle.bp_journal.specs.declared.version.Version.TheVariants.{One, Two}
+use Rattle.bp_journal.specs.declared.version.Version.TheVariants.{Two}
 use Rattle.bp_journal.specs.Acts.{is_reply_to, is_reply_of}
 use Rattle.bp_journal.specs.Journals.{is_form, is_line_of, is_journal, has_certificate}
 use Rattle.bp_journal.specs.Laws.{LegalIsJournal}

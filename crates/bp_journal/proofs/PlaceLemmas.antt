@@ -8,7 +8,7 @@ use Rattle.bp_types.specs.Claim.{Claim}
 use Rattle.bp_text.specs.declared.text_error.TextError.{TextError}
 use Rattle.bp_text.specs.declared.text_error.TextError.TheVariants.{BadLine, Limit, TooShort, Trailing, Memory}
 use Rattle.bp_text.specs.Lines.{Line as TextLine, HasNoEnd, Given}
-use Rattle.bp_text.specs.Reading.{Begins, HasForm, GivesLines, IsReading, EndsShort}
+use Rattle.bp_text.specs.Reading.{Begins, HasForm, GivesLines, IsReading}
 use Rattle.bp_cert.specs.Texts.{claim_lines, IsSpeakable}
 use Rattle.bp_text.proofs.EndLemmas.{no_end_in_front}
 use Rattle.bp_text.proofs.StageLemmas.{one_more_line, more_lines}
@@ -18,7 +18,7 @@ use Rattle.bp_core.specs.declared.line.Entry.{Entry}
 use Rattle.bp_core.specs.declared.line.Line.{Line}
 use Rattle.bp_core.specs.Lines.{History, published_position}
 use Rattle.bp_journal.specs.declared.version.Version.{Version}
-use Rattle.bp_journal.specs.declared.version.Version.TheVariants.{One, Two}
+use Rattle.bp_journal.specs.declared.version.Version.TheVariants.{Two}
 use Rattle.bp_journal.specs.Limits.{IsNotedWithin, IsLineWithin, IsEntryWithin}
 use Rattle.bp_journal.specs.Journals.{Noted, noted_lines, entry_text, certificate_part, lines_from, version_line, journal_lines, has_certificate, is_form, is_line_of, is_journal}
 use Rattle.bp_text.specs.Places.{IsPlace}

@@ -1,11 +1,11 @@
 -- From the lines of a journal to its bytes.
-use Rattle.std.proofs.Common.{◌≡◌, ℕ, ◌+◌, ap, refl, List, []}
+use Rattle.std.proofs.Common.{◌≡◌, ℕ, ◌+◌, refl, List, []}
 use Rattle.std.specs.Prelude.{Ok, Err}
 use Rattle.bp_text.specs.declared.text_error.TextError.{TextError}
 use Rattle.bp_text.specs.declared.text_error.TextError.TheVariants.{Trailing}
 use Rattle.bp_text.specs.Lines.{Given}
-use Rattle.bp_text.specs.Reading.{Spells, start_of, IsReading}
-use Rattle.bp_text.proofs.WholeLemmas.{trailed_text, whole_text, refused_text}
+use Rattle.bp_text.specs.Reading.{Spells, start_of}
+use Rattle.bp_text.proofs.WholeLemmas.{trailed_text, whole_text}
 use Rattle.bp_core.specs.Lines.{History}
 use Rattle.bp_journal.specs.Journals.{Noted, noted_lines}
 use Rattle.bp_journal.specs.Limits.{IsNotedWithin}

@@ -1,16 +1,16 @@
 -- Sums, certificates and displacements of an instance within the limits are small.
-use Rattle.std.proofs.Common.{◌≡◌, ℕ, zero, suc, ◌+◌, ◌*◌, ◌<◌, ◌≤◌, arith, Bool, true, false, cond, List, length, slice_index, All}
+use Rattle.std.proofs.Common.{ℕ, zero, suc, ◌*◌, ◌<◌, ◌≤◌, arith, Bool, true, false, cond, List, length, slice_index, All}
 use Rattle.std.proofs.Math.Nat.{mul-le-mul}
 use Rattle.std.proofs.lemmas.List.{get_or_default}
 use Rattle.bp_types.specs.declared.stay.Span.{Span}
-use Rattle.bp_types.specs.declared.limits.TheConstants.{MOST_PRICE, MOST_NIGHTS, MOST_STAYS, MOST_RATE, MOST_FORECAST}
+use Rattle.bp_types.specs.declared.limits.TheConstants.{MOST_PRICE}
 use Rattle.bp_types.specs.Sums.{sum_below}
 use Rattle.bp_types.specs.Program.{Program, no_stay, stay_at, covers, worth, price}
 use Rattle.bp_types.specs.Limits.{IsWithinLimits}
 use Rattle.bp_types.specs.Optimum.{IsFeasible}
 use Rattle.bp_types.specs.Claim.{Claim, IsCertificateOf}
 use Rattle.bp_types.specs.Displacement.{IsDisplacement}
-use Rattle.bp_cert.specs.Texts.{IsSpeakable, IsWord}
+use Rattle.bp_cert.specs.Texts.{IsSpeakable}
 use Rattle.bp_journal.specs.declared.limits.TheConstants.{MOST_DISPLACEMENT}
 
 prices_sum : (f : ℕ → ℕ) (n : ℕ) → ((k : ℕ) → k < n → f k ≤ 1000000000) → sum_below f n ≤ 1000000000 * n

@@ -5,14 +5,13 @@ use Rattle.std.proofs.Math.Bool.{Bool-set}
 use Rattle.std.proofs.lemmas.List.{append-nil}
 use Rattle.bp_text.specs.declared.text_error.TextError.{TextError}
 use Rattle.bp_text.specs.declared.text_error.TextError.TheVariants.{Memory}
-use Rattle.bp_text.specs.Lines.{Line as TextLine, text_of}
+use Rattle.bp_text.specs.Lines.{Line as TextLine}
 use Rattle.bp_text.specs.Reading.{IsText, seen_as}
 use Rattle.bp_text.proofs.SpellingLemmas.{IsSpelling}
 use Rattle.bp_text.proofs.OneWayLemmas.{one_way}
 use Rattle.bp_core.specs.Lines.{History}
 use Rattle.bp_journal.specs.declared.version.Version.{Version}
-use Rattle.bp_journal.specs.declared.version.Version.TheVariants.{One, Two}
-use Rattle.bp_journal.specs.Journals.{Noted, noted_lines, entry_text, lines_from, version_line, journal_lines, is_journal}
+use Rattle.bp_journal.specs.Journals.{Noted, noted_lines, entry_text, lines_from, version_line, is_journal}
 use Rattle.bp_journal.specs.Limits.{IsNotedWithin}
 use Rattle.bp_journal.specs.Read.{IsJournalText}
 use Rattle.bp_journal.specs.Laws.{VersionsAreTold, OneReading}

@@ -1,5 +1,5 @@
 -- Lines of entries and certificates, with one entry more.
-use Rattle.std.proofs.Common.{◌≡◌, ℕ, ◌+◌, refl, ap, sym, ◌∙◌, arith, true, false, cond, Option, is_some, List, [], ◌∷◌, ◌++◌, length, count_by, Some, None, inl, inr}
+use Rattle.std.proofs.Common.{◌≡◌, ◌+◌, refl, ap, sym, ◌∙◌, arith, true, false, cond, Option, is_some, List, [], ◌∷◌, ◌++◌, length, Some, None, inl, inr}
 use Rattle.std.proofs.lemmas.Bool.{cases_Bool}
 use Rattle.std.proofs.lemmas.List.Sums.{sum_by-cons, sum_by-append}
 use Rattle.bp_types.specs.Claim.{Claim}

@@ -1,5 +1,5 @@
 -- Values that are told by numbers, some of which may be above their limits.
-use Rattle.std.proofs.Common.{◌≡◌, ℕ, ◌≤◌, ◌<◌, ◌||◌, refl, ap, sym, subst, ◌∙◌, arith, Bool, true, false}
+use Rattle.std.proofs.Common.{◌≡◌, ℕ, ◌≤◌, ◌<◌, ◌||◌, ap, sym, subst, ◌∙◌, arith, Bool, true, false}
 use Rattle.std.specs.Prelude.{MatchBool}
 use Rattle.bp_text.specs.Words.{IsCounted}
 use Rattle.bp_text.specs.declared.words.Counted.{Counted}

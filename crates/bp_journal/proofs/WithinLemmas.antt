@@ -1,8 +1,7 @@
 -- The numbers of a legal history keep to the reader's limits.
-use Rattle.std.proofs.Common.{◌≡◌, ℕ, zero, suc, ◌+◌, ◌*◌, ◌-◌, ◌<◌, ◌≤◌, ◌==◌, ◌&&◌, refl, ap, sym, subst, ◌∙◌, arith, Bool, true, false, cond, List, [], ◌∷◌, ◌++◌, length, take, All, IsTrue, Option, Some, None, MatchOption, unwrap_or, nat_lt, nat_le, inl, inr, get_or}
+use Rattle.std.proofs.Common.{◌≡◌, ℕ, zero, suc, ◌*◌, ◌-◌, ◌<◌, ◌≤◌, ◌==◌, ◌&&◌, refl, ap, sym, subst, arith, Bool, true, false, cond, List, [], ◌∷◌, ◌++◌, length, take, All, IsTrue, Option, Some, None, MatchOption, unwrap_or, nat_lt, nat_le, inl, inr}
 use Rattle.std.specs.Prelude.{not}
 use Rattle.std.specs.List.{list_any}
-use Rattle.std.proofs.Math.Seq.{take-length}
 use Rattle.std.proofs.lemmas.Bool.{and_parts, or_cases, eqb-true}
 use Rattle.std.proofs.lemmas.Bool.Decides.{nat_tests}
 use Rattle.std.proofs.lemmas.List.{length-take-le, get_or_default}
@@ -10,7 +9,7 @@ use Rattle.std.proofs.lemmas.List.Elements.{All-nil}
 use Rattle.bp_types.specs.declared.stay.Span.{Span}
 use Rattle.bp_types.specs.declared.command.Command.{Command}
 use Rattle.bp_types.specs.declared.command.Command.TheVariants.{Book, Cancel, Reforecast, Reprice, Resize, Group}
-use Rattle.bp_types.specs.declared.limits.TheConstants.{MOST_PRICE, MOST_NIGHTS, MOST_ENTRIES, MOST_PUBLICATIONS, MOST_RATE, MOST_ROOMS}
+use Rattle.bp_types.specs.declared.limits.TheConstants.{MOST_PRICE, MOST_NIGHTS, MOST_ENTRIES, MOST_PUBLICATIONS, MOST_RATE}
 use Rattle.bp_types.specs.Claim.{Claim, IsCertificateOf}
 use Rattle.bp_types.specs.Program.{no_stay}
 use Rattle.bp_types.specs.House.{Inn, IsHouse, is_from_one}
@@ -20,14 +19,13 @@ use Rattle.bp_types.proofs.Firsts.{first_passes}
 use Rattle.bp_cert.specs.Texts.{IsSpeakable, IsWord}
 use Rattle.bp_core.specs.declared.line.Act.{Act}
 use Rattle.bp_core.specs.declared.line.Act.TheVariants.{Do, Publish, Enrol, Leave}
-use Rattle.bp_core.specs.declared.line.Entry.{Entry}
 use Rattle.bp_core.specs.declared.line.Line.{Line}
 use Rattle.bp_core.specs.declared.line.Reply.{Reply}
-use Rattle.bp_core.specs.declared.line.Reply.TheVariants.{Accepted, TooLow, NoRoom, Cancelled, NotBooked, AlreadyCancelled, Done, BelowSold, GroupAccepted, GroupTooLow, GroupNoRoom, Vector}
-use Rattle.bp_core.specs.Lines.{History, line_at, no_line, is_accepted, is_cancellation, nth_book, vectors, last_number, last_value, last_prices, prices_of}
+use Rattle.bp_core.specs.declared.line.Reply.TheVariants.{TooLow, Cancelled, NotBooked, AlreadyCancelled, Done, BelowSold, GroupAccepted, GroupTooLow, GroupNoRoom}
+use Rattle.bp_core.specs.Lines.{History, line_at, no_line, is_accepted, is_cancellation, nth_book, vectors, last_number, last_prices, prices_of}
 use Rattle.bp_core.specs.Callers.{has_enrolled, has_left, may_act, may_log}
 use Rattle.bp_core.specs.Instance.{span_of, rate_of, sold_at, instance_of, instance_at, rooms_left_at}
-use Rattle.bp_core.specs.Answer.{IsReply, IsCommandReply, IsGroupReply, IsPricedReply, book_reply, covered_reply, given_up_reply, cancel_reply, resize_reply, group_reply, sum_of}
+use Rattle.bp_core.specs.Answer.{IsReply, IsCommandReply, IsPricedReply, covered_reply, given_up_reply, sum_of}
 use Rattle.bp_core.specs.Legal.{IsLegal, IsLegalLine, IsCertified, is_in_range, is_command_in_range}
 use Rattle.bp_core.proofs.Counts.{counted_at, vectors_fit, has_room}
 use Rattle.bp_core.proofs.Instances.{nights_now}
@@ -36,7 +34,7 @@ use Rattle.bp_core.proofs.Pushes.{last_value-push}
 use Rattle.bp_core.proofs.Sound.{IsSound, sound_at, keeps_limits}
 use Rattle.bp_core.proofs.Vectors.{position_so_far}
 use Rattle.bp_journal.specs.declared.limits.TheConstants.{MOST_DISPLACEMENT}
-use Rattle.bp_journal.specs.Limits.{IsHalfWord, IsCommandWithin, IsActWithin, IsReplyWithin, IsEntryWithin, IsLineWithin}
+use Rattle.bp_journal.specs.Limits.{IsHalfWord, IsCommandWithin, IsActWithin, IsReplyWithin, IsLineWithin}
 use Rattle.bp_journal.proofs.SmallLemmas.{price_is_small, displacement_is_small, certificate_is_small}
 
 -- what a line with a certificate publishes

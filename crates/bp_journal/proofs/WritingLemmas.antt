@@ -7,7 +7,7 @@ use Rattle.std.proofs.lemmas.Option.{slice_get-get_or}
 use Rattle.bp_types.specs.Claim.{Claim}
 use Rattle.bp_edges.specs.Writing.{AppendedPrefix}
 use Rattle.bp_edges.proofs.Grows.{AppendedPrefix-longer}
-use Rattle.bp_text.specs.Lines.{Line as TextLine, text_of}
+use Rattle.bp_text.specs.Lines.{text_of}
 use Rattle.bp_text.specs.Drafts.{IsDrafted, Drafts}
 use Rattle.bp_text.proofs.DraftLemmas.{drafted_more, refused_more, refused_longer, Drafts-append, Drafts-refused}
 use Rattle.bp_text.proofs.StageLemmas.{text_of-append}

@@ -1,8 +1,7 @@
 -- What is written of a legal history is read as this very history.
-use Rattle.std.proofs.Common.{◌≡◌, refl}
-use Rattle.std.specs.Prelude.{Result, Ok, Err}
+use Rattle.std.proofs.Common.{refl}
+use Rattle.std.specs.Prelude.{Result, Ok}
 use Rattle.bp_text.specs.declared.text_error.TextError.{TextError}
-use Rattle.bp_text.specs.declared.text_error.TextError.TheVariants.{Memory}
 use Rattle.bp_core.specs.Lines.{History}
 use Rattle.bp_journal.specs.declared.version.Version.TheVariants.{Two}
 use Rattle.bp_journal.specs.Journals.{journal_text}

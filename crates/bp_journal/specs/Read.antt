@@ -1,5 +1,5 @@
 -- How a journal's text is read.
-use Rattle.std.specs.Prelude.{◌≡◌, ◌⊎◌, ℕ, true, false, IsTrue, List, [], ◌∷◌, All, codes, Option, Some, None, is_some, Result, Ok, Err}
+use Rattle.std.specs.Prelude.{◌≡◌, ◌⊎◌, ℕ, true, false, IsTrue, List, ◌∷◌, All, codes, Option, Some, None, is_some, Result, Ok, Err}
 use Rattle.bp_types.specs.Claim.{Claim}
 use Rattle.bp_text.specs.declared.text_error.TextError.{TextError}
 use Rattle.bp_text.specs.Lines.{Given, GivesLine}

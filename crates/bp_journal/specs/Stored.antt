@@ -1,5 +1,5 @@
 -- Entries and certificates as the lines of a history.
-use Rattle.std.specs.Prelude.{ℕ, Bool, if◌then◌else◌, List, [], ◌∷◌, drop, count_by, slice_get, Option, Some, None, is_some}
+use Rattle.std.specs.Prelude.{ℕ, Bool, if◌then◌else◌, List, [], ◌∷◌, drop, count_by, slice_get, None, is_some}
 use Rattle.bp_types.specs.Claim.{Claim}
 use Rattle.bp_core.specs.declared.line.Entry.{Entry}
 use Rattle.bp_core.specs.declared.line.Line.{Line}

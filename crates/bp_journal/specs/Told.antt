@@ -1,5 +1,5 @@
 -- What the words of a line tell: an act and a reply, of which a number may be above its limit.
-use Rattle.std.specs.Prelude.{◌≡◌, ℕ, Bool, true, List, ◌∷◌, ◌++◌, map, Option, Some, None, MatchBool}
+use Rattle.std.specs.Prelude.{◌≡◌, Bool, true, List, ◌++◌, map, Option, Some, None, MatchBool}
 use Rattle.bp_text.specs.Numbers.{spelled}
 use Rattle.bp_text.specs.Words.{Word, phrase, IsCounted}
 use Rattle.bp_text.specs.declared.words.Counted.{Counted}
@@ -13,7 +13,7 @@ use Rattle.bp_journal.specs.declared.found.Found.TheVariants.{Bad, Great, Whole}
 use Rattle.bp_journal.specs.declared.told.ToldAct.{ToldAct}
 use Rattle.bp_journal.specs.declared.told.ToldReply.{ToldReply}
 use Rattle.bp_journal.specs.Acts.{act_word, act_numbers, reply_word, reply_numbers}
-use Rattle.bp_journal.specs.Journals.{entry_words, is_known, is_form}
+use Rattle.bp_journal.specs.Journals.{is_known}
 use Rattle.bp_journal.specs.Limits.{IsActWithin, IsReplyWithin, IsEntryWithin}
 
 -- this very value was told and is within its limits, or a number of it is above one

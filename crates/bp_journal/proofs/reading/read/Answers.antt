@@ -1,10 +1,6 @@
 use Rattle.std.proofs.Common.{subst}
 use Rattle.std.proofs.lemmas.Result.{err_from_is_err_and}
 use Rattle.bp_text.specs.Lines.{Given}
-use Rattle.bp_text.specs.Reading.{IsReading}
-use Rattle.bp_text.proofs.WholeLemmas.{refused_text}
-use Rattle.bp_journal.specs.Journals.{noted_lines}
-use Rattle.bp_journal.specs.Limits.{IsNotedWithin}
 use Rattle.bp_journal.specs.Read.{IsNoted}
 use Rattle.bp_journal.proofs.ReadingLemmas.{whole_journal, trailed_journal}
 use Rattle.bp_journal.proofs.reading.read.Goals as goal

@@ -1,4 +1,4 @@
-use Rattle.std.proofs.Common.{◌≡◌, ◌++◌, ◌∷◌, [], subst, refl, length, Option}
+use Rattle.std.proofs.Common.{◌++◌, ◌∷◌, [], subst, refl, Option}
 use Rattle.std.specs.Prelude.{Ok}
 use Rattle.std.proofs.lemmas.Result.{err_from_is_err_and}
 use Rattle.bp_core.specs.declared.line.Line.{Line}

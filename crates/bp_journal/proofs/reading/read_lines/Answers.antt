@@ -1,7 +1,7 @@
 use Rattle.std.proofs.Common.{[]}
 use Rattle.std.proofs.lemmas.Result.{err_from_is_err_and}
-use Rattle.bp_text.proofs.StageLemmas.{no_lines, one_more_line, refused_here}
-use Rattle.bp_journal.specs.Journals.{noted_lines, version_line}
+use Rattle.bp_text.proofs.StageLemmas.{no_lines, refused_here}
+use Rattle.bp_journal.specs.Journals.{noted_lines}
 use Rattle.bp_journal.specs.Limits.{IsNotedWithin}
 use Rattle.bp_journal.specs.Found.{IsVersionLine, IsAnyLine}
 use Rattle.bp_journal.proofs.PlaceLemmas.{version_place}

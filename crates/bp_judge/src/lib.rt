@@ -1,4 +1,4 @@
-//! Whether a list of lines is a legal history of a house, and if not, its first place with a cause and that cause.
+//! Whether a journal is a legal history of a house, and if not, its first place with a cause and that cause.
 //!
 //! Nothing of the desk that wrote the lines is trusted. The history is made anew, line by line, by a book of the
 //! house; a vector is judged by its certificate, and what a group displaces is found by a solver.
@@ -8,11 +8,10 @@ mod certified;
 mod course;
 mod judgement;
 pub mod law;
-mod lines;
 mod replay;
 mod solved;
 mod trail;
 mod units;
 
 pub use judgement::{Cause, Judgement};
-pub use replay::judge_lines;
+pub use replay::judge;

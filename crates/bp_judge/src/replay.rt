@@ -12,10 +12,10 @@ ghost use Rattle.bp_judge.specs.Searches.{is_group, HasNoGroup};
 
 use crate::certified::certified;
 use crate::course::Course;
-use crate::lines::Lines;
 use crate::trail::Trail;
 use crate::{Cause, Judgement};
 use bp_core::{Act, Answer, Book, Call, Line, Reply, is_in_range};
+use bp_journal::{Journal, JournalLines};
 use bp_types::{Command, House, Memory, Span, Steps};
 use std::alloc::Global;
 use std::sync::ledger::Ledger;
@@ -27,20 +27,32 @@ pub(crate) struct Replay {
     pub(crate) trail: Trail,
 }
 
-/// Judges a list of lines: whether it is a legal history of the house, or the first place that breaks a rule,
+/// Judges a journal: whether it is a legal history of the house, or the first place that breaks a rule,
 /// with the first rule that it breaks.
 ///
 /// Each certificate moves into the board that it makes. Where there is no Group, no search is made.
-pub fn judge_lines<L: Ledger>(
+pub fn judge<L: Ledger>(
     alloc: Global,
     house: House,
-    lines: Vec<Line>,
+    journal: Journal,
     steps: &mut Steps<L>,
 ) -> Result<Judgement, Memory>
-    ensures judged { IfOk result (IsJudged house lines.items) }
-    ensures unsearched { HasNoGroup lines.items → steps.new ≡ steps.old }
+    ensures judged { IfOk result (IsJudged house journal) }
+    ensures unsearched { HasNoGroup journal → steps.new ≡ steps.old }
 {
-    let mut lines = Lines::new(lines);
+    judge_lines(alloc, house, journal.into_lines(), steps)
+}
+
+/// Judges the lines that are left to be given.
+fn judge_lines<L: Ledger>(
+    alloc: Global,
+    house: House,
+    mut lines: JournalLines,
+    steps: &mut Steps<L>,
+) -> Result<Judgement, Memory>
+    ensures judged { IfOk result (IsJudged house lines) }
+    ensures unsearched { HasNoGroup lines → steps.new ≡ steps.old }
+{
     let Some(first) = lines.next() else {
         return Ok(Judgement::NotLegal {
             place: 0,

@@ -113,7 +113,7 @@ const OPENS_SOLD: Row = (
     Some((100, [0, 0, 1, 1], [0, 110, 40])),
 );
 
-pub(crate) const CASES: [Case; 30] = [
+pub(crate) const CASES: [Case; 29] = [
     // Two bookings and a full night, three vectors.
     (
         TIGHT,
@@ -711,24 +711,5 @@ pub(crate) const CASES: [Case; 30] = [
             ),
         ],
         Some((4, Cause::Certificate)),
-    ),
-    // A certificate on a booking.
-    (
-        TIGHT,
-        &[
-            OPENS,
-            ENROLS,
-            (
-                1,
-                Do(Book { stay: 0 }),
-                Accepted {
-                    vector: 0,
-                    sum: 100,
-                },
-                Some((250, [0, 1, 1, 1], [0, 100, 40])),
-            ),
-            STRANGER_LEAVES,
-        ],
-        Some((2, Cause::Certificate)),
     ),
 ];

@@ -1,8 +1,10 @@
-ghost use Rattle.std.specs.Prelude.{◌≡◌, ◌<◌};
+ghost use Rattle.std.specs.Prelude.{◌≡◌, ◌<◌, is_some, IsTrue};
+ghost use Rattle.bp_core.specs.Lines.{published_position};
 
 use crate::journals::{CASES, Claimed, Row, Setting};
-use bp_core::{Entry, Line};
-use bp_judge::{Cause, Judgement, judge_lines};
+use bp_core::{Act, Entry, Line};
+use bp_journal::Journal;
+use bp_judge::{Cause, Judgement, judge};
 use bp_types::{Certificate, House, Memory, Span, Stay, Steps};
 use std::alloc::Global;
 use std::marker::Brand;
@@ -39,8 +41,9 @@ fn certificate(alloc: Global, claimed: &Claimed) -> Result<Certificate, Memory> 
     })
 }
 
-fn journal(alloc: Global, rows: &[Row]) -> Result<Vec<Line>, Memory> {
-    let mut lines = Vec::new(alloc);
+/// The journal of these rows, each Publish and no other act with a certificate.
+fn journal(alloc: Global, rows: &[Row]) -> Result<Journal, Fail> {
+    let mut journal = Journal::with_capacity(alloc, rows.len(), 3)?;
     for (caller, act, reply, claimed) in rows {
         let entry = Entry {
             caller: *caller,
@@ -51,9 +54,19 @@ fn journal(alloc: Global, rows: &[Row]) -> Result<Vec<Line>, Memory> {
             Some(claimed) => Some(certificate(alloc, claimed)?),
             None => None,
         };
-        lines.push(Line { entry, certificate })?;
+        if !may_stand(&entry, &certificate) {
+            return Err(Fail::new(format_args!("{entry:?}")));
+        }
+        journal.push(Line { entry, certificate })?;
     }
-    Ok(lines)
+    Ok(journal)
+}
+
+/// Whether there is a certificate exactly where the act is a Publish.
+fn may_stand(entry: &Entry, certificate: &Option<Certificate>) -> bool
+    ensures { IsTrue result → is_some certificate.now ≡ is_some (published_position entry.now.act) }
+{
+    certificate.is_some() == matches!(entry.act, Act::Publish { .. })
 }
 
 /// The first place with a cause, and None where the journal is legal.
@@ -69,7 +82,7 @@ fn judged<L: Ledger>(
 {
     let mut steps: Steps<L> = Steps::new(blank);
     let house = house(alloc, setting)?;
-    match judge_lines(alloc, house, journal(alloc, rows)?, &mut steps)? {
+    match judge(alloc, house, journal(alloc, rows)?, &mut steps)? {
         Judgement::Legal(_) => Ok(None),
         Judgement::NotLegal { place, cause } => Ok(Some((place, cause))),
     }

@@ -8,8 +8,8 @@ abbrev pub invariant-loop-line : goal.invariant-loop-line
 invariant-loop-line g l = record {
   is : IsReplay l.replay;
   house : l.replay.book.house ≡ l.fn.house;
-  read : l.fn.lines.items ≡ l.replay.book.history ++ l.lines;
-  unsearched : HasNoGroup l.fn.lines.items → l.steps ≡ l.fn.steps;
+  read : l.fn.lines ≡ l.replay.book.history ++ l.lines;
+  unsearched : HasNoGroup l.fn.lines → l.steps ≡ l.fn.steps;
 }
 
 abbrev pub decreases-loop-line : goal.decreases-loop-line

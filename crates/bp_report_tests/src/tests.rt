@@ -1,9 +1,11 @@
-ghost use Rattle.std.specs.Prelude.{◌≡◌, ◌<◌};
+ghost use Rattle.std.specs.Prelude.{◌≡◌, ◌<◌, is_some, IsTrue};
+ghost use Rattle.bp_core.specs.Lines.{published_position};
 
 use bp_core::{Act, Book, Entry, Line, Reply};
 use bp_edges::MemorySink;
 use bp_hotelfile::{Hotel, read_hotel};
-use bp_judge::{Judgement, judge_lines};
+use bp_journal::Journal;
+use bp_judge::{Judgement, judge};
 use bp_report::report;
 use bp_stayfile::{Codes, Stays, read_forecast, read_stays};
 use bp_types::{Certificate, Command, House, Steps};
@@ -41,8 +43,9 @@ fn stays(alloc: Global, hotel: &Hotel, table: &str, forecast: &str) -> Result<St
     Ok(stays)
 }
 
-fn lines_of(alloc: Global, rows: &[Row<'_>]) -> Result<Vec<Line>, Fail> {
-    let mut lines = Vec::new(alloc);
+/// The journal of these rows, each Publish and no other act with a certificate.
+fn journal_of(alloc: Global, rows: &[Row<'_>]) -> Result<Journal, Fail> {
+    let mut journal = Journal::with_capacity(alloc, rows.len(), rows.len())?;
     for row in rows {
         let entry = Entry {
             caller: row.0,
@@ -57,9 +60,19 @@ fn lines_of(alloc: Global, rows: &[Row<'_>]) -> Result<Vec<Line>, Fail> {
             }),
             None => None,
         };
-        lines.push(Line { entry, certificate })?;
+        if !may_stand(&entry, &certificate) {
+            return Err(Fail::new(format_args!("{entry:?}")));
+        }
+        journal.push(Line { entry, certificate })?;
     }
-    Ok(lines)
+    Ok(journal)
+}
+
+/// Whether there is a certificate exactly where the act is a Publish.
+fn may_stand(entry: &Entry, certificate: &Option<Certificate>) -> bool
+    ensures { IsTrue result → is_some certificate.now ≡ is_some (published_position entry.now.act) }
+{
+    certificate.is_some() == matches!(entry.act, Act::Publish { .. })
 }
 
 /// The book of a hotel with nothing sold at first, of which these rows are a legal history.
@@ -79,7 +92,7 @@ fn judged<L: Ledger>(
     let stays = Vec::from_slice(alloc, stays.as_slice())?;
     let house = House::new(rooms, sold, stays, hotel.limits())?;
     let mut steps: Steps<L> = Steps::new(blank);
-    match judge_lines(alloc, house, lines_of(alloc, rows)?, &mut steps)? {
+    match judge(alloc, house, journal_of(alloc, rows)?, &mut steps)? {
         Judgement::Legal(book) => Ok(book),
         Judgement::NotLegal { place, cause } => {
             Err(Fail::new(format_args!("{cause:?} at place {place}")))

@@ -1,17 +1,15 @@
 -- A round whose board was answered.
-use Rattle.std.proofs.Common.{◌≡◌, ℕ, ◌≤◌, [], ◌∷◌, ◌++◌, length, ap, subst, ◌∙◌, append_assoc, Result, Ok, Err, OnErr}
+use Rattle.std.proofs.Common.{[], ◌∷◌, ◌++◌, ap, ◌∙◌, append_assoc, Result, Ok, Err, OnErr}
 use Rattle.bp_turn.specs.Prefix.{IsPrefix}
 use Rattle.bp_core.specs.declared.call.Call.{Call}
 use Rattle.bp_core.specs.declared.call.Answer.{Answer}
 use Rattle.bp_core.specs.Acting.{line_of}
-use Rattle.bp_core.specs.Lines.{History, last_position}
-use Rattle.bp_core.specs.Changes.{changes_after}
+use Rattle.bp_core.specs.Lines.{History}
 use Rattle.bp_desk.specs.Passes.{PassState}
-use Rattle.bp_desk.specs.Calling.{HasRead, IsCalled, diary}
+use Rattle.bp_desk.specs.Calling.{IsCalled, diary}
 use Rattle.bp_optimise.proofs.Following.{goes_later}
 use Rattle.bp_desk.proofs.Answered.{by_answer}
-use Rattle.bp_optimise.specs.Following.{Optimising, GoesWith, HasLooked, IsOffered}
-use Rattle.bp_optimise.specs.Rounds.{HasOffered}
+use Rattle.bp_optimise.specs.Following.{Optimising, GoesWith}
 
 -- what was seen before a call begins what is seen after it
 pub called_begins : (old new : PassState) (call : Call) (answer : Answer) → IsCalled old new call answer → IsPrefix old.seen new.seen
@@ -26,18 +24,6 @@ called_begins old new call answer c =
 -- an optimiser goes with the pass after a call too
 pub goes_after : (old new : PassState) (call : Call) (answer : Answer) (o : Optimising) → IsCalled old new call answer → GoesWith old.house old.seen o → GoesWith new.house new.seen o
 goes_after old new call answer o c g = goes_later old.house new.house old.seen new.seen o (ap (λ (p : PassState). p.house) c.pass) (called_begins old new call answer c) g
-
-pub has_offered : (old first middle new : PassState) (least position changes : ℕ) (answer : Answer) → HasRead old first → changes ≡ changes_after first.seen (last_position first.seen) → least ≤ changes
-    → HasLooked first middle → position ≡ length first.seen → IsOffered least position middle new answer → HasOffered old new position least answer
-has_offered old first middle new least position changes answer read is enough between at offered = record {
-  first = first;
-  middle = middle;
-  looked = read;
-  enough = subst (λ n. least ≤ n) is enough;
-  between = between;
-  caught_up = at;
-  offered = offered;
-}
 
 pub on_err : (A E : Type 0) (r : Result A E) (P : Type 0) → P → OnErr r P
 on_err A E (Ok x) P p = tt

@@ -46,10 +46,6 @@ pub counts_on : (s t u a b c m n : ℕ) → CountsSearches s t a b m → CountsS
 counts_on s t u a b c m n (one, serves) (two, more) =
     ((omega (arith, one, two), omega (arith, one, two)), subst (Serves a c) (omega (arith, one, two)) (serves_on a b c (t - s) (u - t) serves more))
 
--- a bound that is no less
-pub counts_within : (s t a b m n : ℕ) → m ≤ n → CountsSearches s t a b m → CountsSearches s t a b n
-counts_within s t a b m n le (counts, serves) = ((counts.0, omega (arith, le, counts)), serves)
-
 -- no search at all
 pub counts_none : (s a n : ℕ) → CountsSearches s s a a n
 counts_none s a n = ((omega arith, omega arith), serves_none)

@@ -1,5 +1,5 @@
 -- What a session's commands leave, and why it stops.
-use Rattle.std.proofs.Common.{◌≡◌, ℕ, ◌+◌, ◌*◌, ◌<◌, ◌≤◌, Bool, true, false, ◌||◌, nat_le, ◌==◌, cond, List, [], ◌∷◌, ◌++◌, length, take, count_by, slice_index_or, Option, Some, None, Ok, Err, is_some, MatchOption, IsTrue, refl, sym, ap, subst, ◌∙◌, arith, append-nil, append_assoc}
+use Rattle.std.proofs.Common.{◌≡◌, ℕ, ◌+◌, ◌<◌, ◌≤◌, Bool, true, false, ◌||◌, nat_le, ◌==◌, cond, List, [], ◌∷◌, ◌++◌, length, take, count_by, slice_index_or, Option, Some, None, Ok, Err, is_some, MatchOption, IsTrue, refl, sym, ap, subst, ◌∙◌, arith, append-nil, append_assoc}
 use mathlib.Core.Logic.{dite}
 use native.Mathlib.Decide.{dec_lt}
 use Rattle.std.specs.List.{list_any}
@@ -12,7 +12,6 @@ use Rattle.bp_types.specs.declared.stay.Span.{Span}
 use Rattle.bp_types.specs.declared.command.Command.{Command}
 use Rattle.bp_types.specs.declared.command.Command.TheVariants.{Book, Cancel, Reforecast, Reprice, Resize, Group}
 use Rattle.bp_types.specs.declared.command.Quoted.{Quoted}
-use Rattle.bp_types.specs.Displacement.{IsDisplacement}
 use Rattle.bp_turn.specs.Prefix.{IsPrefix}
 use Rattle.bp_core.specs.declared.line.Line.{Line}
 use Rattle.bp_core.specs.declared.line.Reply.{Reply}
@@ -23,8 +22,8 @@ use Rattle.bp_core.specs.declared.call.Answer.TheVariants.{Logged, HistoryFull a
 use Rattle.bp_core.specs.Lines.{History, is_command, is_publish, commands, vectors, last_position}
 use Rattle.bp_core.specs.Changes.{changes_after}
 use Rattle.bp_types.specs.Spans.{first_short}
-use Rattle.bp_core.specs.Instance.{rooms_left_at, instance_at, units_left_at}
-use Rattle.bp_core.specs.Acting.{line_of, command_refusal, quote_refusal, refuse_if, IsLogged, IsRefused, IsAnswered, IsCallRight}
+use Rattle.bp_core.specs.Instance.{rooms_left_at, units_left_at}
+use Rattle.bp_core.specs.Acting.{line_of, command_refusal, quote_refusal, refuse_if, IsLogged, IsRefused, IsAnswered}
 use Rattle.bp_core.specs.Legal.{IsLegal, is_command_in_range}
 use Rattle.bp_core.proofs.Pushes.{count-push}
 use Rattle.bp_core.proofs.Counts.{commands_fit}
@@ -47,7 +46,6 @@ use Rattle.bp_optimise.specs.declared.tries.Attempt.{Attempt}
 use Rattle.bp_optimise.specs.declared.tries.Attempt.TheVariants.{Ended, Again}
 use Rattle.bp_optimise.specs.declared.sessions.Stop.{Stop}
 use Rattle.bp_optimise.specs.declared.sessions.Stop.TheVariants.{Finished, HistoryFull as NoEntryLeft, PublicationsFull as NoVectorLeft, Memory as NoMemory}
-use Rattle.bp_optimise.specs.Quoting.{IsQuoteOf}
 use Rattle.bp_optimise.specs.Sessions.{is_booking, IsStop, IsSession}
 use Rattle.bp_optimise.specs.Tries.{is_plain, GoesOn, HasAllVectors, MakesNone, IsOutcome, IsAttempt}
 use Rattle.bp_optimise.specs.declared.round.Round.{Round}
@@ -194,25 +192,6 @@ is_behind old new command quoted p changes c adds full =
       (λ r is. absurd (cc)),
     )
 
--- an answer that no such command gets
-pub plain_answers : (P : Type 0) (h : Inn) (found seen : History) (caller : ℕ) (command : Command) (quoted : Option Quoted) (answer : Answer) → IsAnswered (diary h found) (diary h seen) caller (Do command quoted) answer
-    → is_plain command ≡ true → ((answer ≡ NoEntry → P) × ((reply : Reply) → answer ≡ Logged reply → P)) → P
-plain_answers P h found seen caller command quoted answer is plain k = by_command P h found seen caller command quoted answer is (
-  (λ e full same. k.0 e),
-  (λ p n e book many same. absurd (let f = not_both command book plain in f)),
-  (λ e no b same. absurd (let f : true ≡ false = sym plain ∙ no in cc)),
-  (λ n e no b same. absurd (let f : true ≡ false = sym plain ∙ no in cc)),
-  (λ r e. k.1 r e),
-)
-  where
-    not_both : (c : Command) → is_booking c ≡ true → is_plain c ≡ true → ⊥
-    not_both (Book stay) b p = cc
-    not_both (Group span rooms amount) b p = cc
-    not_both (Cancel nth) b p = cc
-    not_both (Reforecast stay count) b p = cc
-    not_both (Reprice stay rate) b p = cc
-    not_both (Resize night rooms) b p = cc
-
 -- an outcome after tries that made no command
 pub outcome_after : (command : Command) (old mid new : PassState) (outcome : Outcome) → MakesNone old mid → IsOutcome command mid new outcome → IsOutcome command old new outcome
 outcome_after command old mid new Made none o = o ∙ ap (λ l. l ++ command ∷ []) none
@@ -263,20 +242,6 @@ stop_later h cs G H done NoVectorLeft (rest, is) legal s =
     (s.0, s.1, all, subst (λ K. h.limits.stale_after ≤ changes_after K (last_position K)) (sym is) (still_stale G rest h.limits.stale_after (none_counted is_publish rest none) s.3))
 stop_later h cs G H done NoMemory begins legal s = s
 
--- a stop by the outcome of the next command
-pub stopped : (h : Inn) (cs : List Command) (old new : PassState) (done : ℕ) (command : Command) → done < length cs → command ≡ slice_index_or cs done command → h ≡ new.house
-    → (IsOutcome command old new HistoryFull → IsStop h cs new.seen done NoEntryLeft) × (IsOutcome command old new PublicationsFull → IsStop h cs new.seen done NoVectorLeft)
-stopped h cs old new done command lt is house = (
-  (λ o. (lt, o.1 ∙ ap (λ (k : Inn). k.limits.entries) (sym house))),
-  (λ o. (lt, (λ d. ap is_booking (other d) ∙ o.1), o.2 ∙ ap (λ (k : Inn). k.limits.publications) (sym house), subst (λ (k : Inn). k.limits.stale_after ≤ changes_after new.seen (last_position new.seen)) (sym house) o.3)),
-)
-  where
-    other : (d : Command) → slice_index_or cs done d ≡ command
-    other d = default_same cs done d command lt ∙ sym is
-      where
-        default_same : (xs : List Command) (i : ℕ) (a b : Command) → i < length xs → slice_index_or xs i a ≡ slice_index_or xs i b
-        default_same xs i a b k = grind (arith, Rattle.std.proofs.lemmas.Grind.common_steps)
-
 -- one command more of the list
 pub made_more : (cs : List Command) (first : List Command) (done : ℕ) (command : Command) (old new : List Command) → done < length cs → command ≡ slice_index_or cs done command → old ≡ first ++ take done cs → new ≡ old ++ command ∷ []
     → new ≡ first ++ take (done + 1) cs
@@ -297,15 +262,6 @@ session_done lead cs pass mid left done stop acted made stops c adds =
       last = adds ∙ ap (λ n. mid.calls ++ line_of n Leave Done ∷ []) acted.caller;
       stops = subst (λ (h : Inn). IsStop h cs left.seen done stop) (sym leave.house) later;
     }
-
--- a quote of the optimiser's program is right for the house
-pub quote_right : (house : Inn) (seen : History) (o : Optimising) (span : Span) (rooms amount units : ℕ) (quoted : Option Quoted) → GoesWith house seen o → units ≡ house.limits.unit * rooms
-    → IsQuoteOf o.solver.flow.program o.position span units quoted → IsCallRight house seen (Do (Group span rooms amount) quoted)
-quote_right house seen o span rooms amount units None goes e is = tt
-quote_right house seen o span rooms amount units (Some q) goes e is =
-    let within : q.position ≤ length seen = subst (λ p. p ≤ length seen) (sym is.0) goes.within in
-    let at : o.solver.flow.program ≡ instance_at house seen q.position = goes.program ∙ ap (instance_at house seen) (sym is.0) in
-    (within, subst (λ p. IsDisplacement p span (house.limits.unit * rooms) q.displacement) at (subst (λ u. IsDisplacement o.solver.flow.program span u q.displacement) e is.1))
 
 pub attempt_after : (command : Command) (old mid new : PassState) (attempt : Attempt) → MakesNone old mid → IsAttempt command mid new attempt → IsAttempt command old new attempt
 attempt_after command old mid new (Ended outcome) none a = outcome_after command old mid new outcome none a

@@ -1,3 +1,5 @@
+//! An optimiser: a solver that follows the history of a desk, publishes and quotes.
+
 ghost use Rattle.std.specs.Prelude.{◌≡◌, ◌*◌, ◌<◌, ◌≤◌, length, IfOk, OnErr};
 ghost use Rattle.std.specs.Arc.{arc_value};
 ghost use Rattle.bp_types.specs.Claim.{IsLeastCertificate};

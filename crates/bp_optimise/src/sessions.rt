@@ -1,3 +1,5 @@
+//! A session beside other callers: from its list of commands to its Leave.
+
 ghost use Rattle.std.specs.Prelude.{◌≡◌, ◌≢◌, ◌≤◌, ◌++◌, true, false, take, IsTrue};
 ghost use Rattle.bp_types.specs.declared.command.Command.TheVariants.{Book, Group};
 ghost use Rattle.bp_types.specs.declared.command.Command.{Command};

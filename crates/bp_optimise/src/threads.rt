@@ -1,3 +1,5 @@
+//! What may move between threads.
+
 use crate::Optimiser;
 
 fn moves<T: Send>() {}

@@ -1,3 +1,5 @@
+//! What becomes of a command of a session.
+
 /// What became of a command of a session.
 #[derive(Clone, Copy, Debug, PartialEq, Eq)]
 pub(crate) enum Outcome {

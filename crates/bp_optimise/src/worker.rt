@@ -1,3 +1,5 @@
+//! A worker beside the sessions: rounds until all of them have left.
+
 ghost use Rattle.std.specs.Prelude.{◌≡◌, ◌≢◌, ◌≤◌, false};
 ghost use Rattle.bp_core.specs.Callers.{greatest_caller};
 ghost use Rattle.bp_optimise.specs.Following.{GoesWith};

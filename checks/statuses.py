@@ -36,6 +36,37 @@ def claim(value, sell, prices):
     return f"certificate 1\nvalue {value}\n{numbers('sell', sell)}\n{numbers('prices', prices)}\nend\n".encode()
 
 
+# One session books a stay of the problem, and leaves.
+JOURNAL = b"""journal 1
+0 0 publish 0 vector 0
+value 250
+sell 0 1 1 1
+prices 0 100 40
+1 1 enrol done
+2 1 book 0 accepted 0 100
+3 1 leave done
+end
+"""
+
+# The files of a hotel whose opening problem is that problem.
+HOTEL = b"""name = "A"
+first_night = "2025-07-01"
+nights = 3
+rooms = 2
+[[night]]
+date = "2025-07-02"
+rooms = 1
+"""
+
+STAYS = b"""code,arrival,nights,rate
+P0,2025-07-01,2,100
+P1,2025-07-02,2,150
+P2,2025-07-01,1,60
+P3,2025-07-03,1,40
+"""
+
+FORECAST = b"code,count\nP0,3\nP1,1\nP2,1\nP3,5\n"
+
 FILES = {
     "problem": PROBLEM,
     "certificate": CERTIFICATE,
@@ -50,11 +81,23 @@ FILES = {
     "cut": PROBLEM[:-1],
     "more": PROBLEM + b" ",
     "cut-certificate": CERTIFICATE[:-5],
+    "journal": JOURNAL,
+    "early-leave": JOURNAL.replace(b"3 1 leave", b"3 2 leave"),
+    "other-reply": JOURNAL.replace(b"accepted 0 100", b"accepted 0 99"),
+    "no-vector": b"journal 1\nend\n",
+    "zero-in-journal": JOURNAL.replace(b"book 0", b"book 00"),
+    "hotel": HOTEL,
+    "stays": STAYS,
+    "forecast": FORECAST,
+    "bookings": b"code,count\n",
+    "overbooked": b"code,count\nP0,1\nP1,1\n",
     "long": b"p" * (2**24 + 1),
     "greatest": b"p" * 2**24,
 }
 
 BOTH = ["check", "problem", "certificate"]
+
+REPLAY = ["replay", "hotel", "stays", "forecast", "bookings"]
 
 # A line of words, its status, and the whole text that it writes.
 LINES = [
@@ -65,6 +108,11 @@ LINES = [
     (["check", "problem", "overfull"], 1, b"overfull 1 2\n"),
     (["check", "problem", "gap"], 1, b"gap 210 250\n"),
     (["check", "problem", "misvalued"], 1, b"misvalued 250\n"),
+    (["judge", "problem", "journal"], 0, b"legal 4\n"),
+    (["judge", "problem", "no-vector"], 1, b"illegal 0 opening\n"),
+    (["judge", "problem", "early-leave"], 1, b"illegal 3 caller\n"),
+    ([*REPLAY, "journal"], 0, b"legal 4\n"),
+    ([*REPLAY, "other-reply"], 1, b"illegal 2 reply\n"),
     ([], 2, USAGE),
     (["help"], 2, USAGE),
     (["check", "problem"], 2, USAGE),
@@ -81,6 +129,9 @@ LINES = [
     (["group", "problem", "0", "4", "1"], 3, b"refused span\n"),
     (["group", "problem", "0", "3", "2"], 3, b"noroom 1\n"),
     (["group", "long", "0", "2", "1"], 3, b"refused 1 toolong\n"),
+    (["judge", "problem", "zero-in-journal"], 3, b"refused 2 badline 7\n"),
+    (["replay", "hotel", "stays", "forecast", "overbooked", "journal"], 3, b"refused 4 overbooked 1\n"),
+    ([*REPLAY, "absent"], 4, b"fault 5\n"),
     (["check", "absent", "certificate"], 4, b"fault 1\n"),
     (["check", "problem", "absent"], 4, b"fault 2\n"),
     (["check", "folder", "certificate"], 4, b"fault 1\n"),
@@ -99,7 +150,7 @@ CHOSEN = [
 ]
 
 # One line of words for each command, and one that no command has: each writes something.
-WRITING = [BOTH, ["solve", "problem"], ["group", "problem", "0", "2", "1"], ["help"]]
+WRITING = [BOTH, ["solve", "problem"], ["group", "problem", "0", "2", "1"], ["judge", "problem", "journal"], [*REPLAY, "journal"], ["help"]]
 
 
 def run(program, folder, words, **how):

@@ -1,6 +1,6 @@
 -- From the files of a command to the end of a call. The proof of a command cites `brings_stop` and `brings_answer`, that
 -- of the whole program `serves` and `serves_nothing`.
-use Rattle.std.proofs.Common.{◌≡◌, ◌≢◌, inl, inr, ℕ, ◌≤◌, refl, ap, sym, subst, ◌∙◌, arith, List, [], ◌∷◌, Ok, Err}
+use Rattle.std.proofs.Common.{◌≡◌, ◌≢◌, inl, inr, ℕ, ◌≤◌, refl, ap, sym, subst, ◌∙◌, arith, List, [], ◌∷◌, Result, Ok, Err}
 use Rattle.std.specs.Prelude.{codes}
 use Rattle.bp_cert.specs.declared.verdict.Verdict.{Verdict}
 use Rattle.bp_cert.specs.declared.verdict.Verdict.TheVariants.{WrongLength, PriceTooGreat, AboveForecast, Overfull, Gap, Misvalued, Optimal}
@@ -13,6 +13,8 @@ use Rattle.bp_run.specs.Stops.{Follows}
 use Rattle.bp_run.specs.Command.{Command, Brings}
 use Rattle.bp_run.specs.Check.{verdict_status}
 use Rattle.bp_run.specs.Group.{group_status}
+use Rattle.bp_run.specs.HotelPlan.{HotelNames}
+use Rattle.bp_run.specs.Judge.{ruling_status, ruling_command, replay_plan}
 use Rattle.bp_run.specs.Commands.{answer_status}
 use Rattle.bp_run.specs.Lines.{said, end_status}
 use Rattle.bp_run.specs.Puts.{Puts, Prints}
@@ -21,9 +23,11 @@ use Rattle.bp_run.specs.declared.stop.Stop.{Stop}
 use Rattle.bp_run.specs.declared.status.Status.{Status}
 use Rattle.bp_run.specs.declared.status.Status.TheVariants as status
 use Rattle.bp_run.specs.declared.end.Answer.{Answer}
-use Rattle.bp_run.specs.declared.end.Answer.TheVariants.{Checked, Solved, Grouped}
+use Rattle.bp_run.specs.declared.end.Answer.TheVariants.{Checked, Solved, Grouped, Judged}
 use Rattle.bp_run.specs.declared.commands.group.GroupAnswer.{GroupAnswer}
 use Rattle.bp_run.specs.declared.commands.group.GroupAnswer.TheVariants.{Quoted, BadSpan, NoRoom}
+use Rattle.bp_run.specs.declared.commands.judge.Ruling.{Ruling}
+use Rattle.bp_run.specs.declared.commands.judge.Ruling.TheVariants.{Legal, Illegal}
 use Rattle.bp_run.specs.declared.end.End.{End}
 use Rattle.bp_run.specs.declared.end.End.TheVariants.{NotPlain, Fault, Refused, Answered}
 
@@ -35,6 +39,14 @@ brings_stop shelf command next stop follows = record { stops = follows.answers; 
 pub brings_answer : (shelf : Fetches) (command : Command) (next : ℕ) (given : command.Given) (own : command.Own)
     → Follows shelf command.plan 1 next (Ok given) → command.IsRight given own → Brings shelf command (Ok own)
 brings_answer shelf command next given own follows right = record { given = given; next = next; gives = follows.answers; right = right }
+
+-- a judge of files with other names that are the same
+pub brings_named : (shelf : Fetches) (n m : HotelNames) (v w : Word) (result : Result Ruling Stop) → n ≡ m → v ≡ w
+    → Brings shelf (ruling_command (replay_plan n v)) result → Brings shelf (ruling_command (replay_plan m w)) result
+brings_named shelf n m v w result names word brings =
+    let P : HotelNames → Type 0 = λ x. Brings shelf (ruling_command (replay_plan x v)) result in
+    let Q : Word → Type 0 = λ x. Brings shelf (ruling_command (replay_plan m x)) result in
+    subst Q word (subst P names brings)
 
 -- a verdict is done or wrong
 pub verdict_number : (verdict : Verdict) → status_number (verdict_status verdict) ≤ 1
@@ -52,11 +64,17 @@ group_number (Quoted displacement before after) = omega arith
 group_number BadSpan = omega arith
 group_number (NoRoom night) = omega arith
 
+-- a ruling is done or wrong
+pub ruling_number : (ruling : Ruling) → status_number (ruling_status ruling) ≤ 1
+ruling_number (Legal entries) = omega arith
+ruling_number (Illegal place rule) = omega arith
+
 -- an answer is done, wrong or refused
 answer_number : (answer : Answer) → status_number (answer_status answer) ≤ 3
 answer_number (Checked verdict) = let least = verdict_number verdict in omega arith
 answer_number (Solved claim) = omega arith
 answer_number (Grouped answer) = group_number answer
+answer_number (Judged ruling) = let least = ruling_number ruling in omega arith
 
 -- so no answer is a fault
 pub answer_is_no_fault : (answer : Answer) → answer_status answer ≢ status.Fault
@@ -153,9 +171,11 @@ threads_not_served (first ∷ rest) may (solve p, asks, landed) =
 threads_not_served (first ∷ rest) may (group p from to rooms, asks, landed) =
     let words = asks.words_are in
     let is : first ≡ codes "group" = cc in threads_apart first (codes "group") is (λ e. cc) (λ e. cc) (λ e. cc) may
-threads_not_served (first ∷ rest) may (judge p journal, asks, landed) = landed
+threads_not_served (first ∷ rest) may (judge p journal, asks, landed) =
+    let is : first ≡ codes "judge" = cc in threads_apart first (codes "judge") is (λ e. cc) (λ e. cc) (λ e. cc) may
 threads_not_served (first ∷ rest) may (desk names workers, asks, landed) = landed
-threads_not_served (first ∷ rest) may (replay names, asks, landed) = landed
+threads_not_served (first ∷ rest) may (replay names, asks, landed) =
+    let is : first ≡ codes "replay" = cc in threads_apart first (codes "replay") is (λ e. cc) (λ e. cc) (λ e. cc) may
 threads_not_served (first ∷ rest) may (report names, asks, landed) = landed
 threads_not_served (first ∷ rest) may (demo seed nights rooms stays, asks, landed) = landed
 threads_not_served (first ∷ rest) may (scenarios p changes, asks, landed) = landed

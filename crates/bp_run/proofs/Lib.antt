@@ -6,5 +6,7 @@ pub mod EndLemmas
 pub mod CompleteLemmas
 -- the files of a hotel are read in one way
 pub mod HotelOneWay
+-- the house of a problem breaks no limit
+pub mod ProblemHouse
 -- what each kind of file and each command owes to completeness
 pub mod SoundCommands

@@ -11,25 +11,33 @@ use Rattle.bp_text.specs.Lines.{Line}
 use Rattle.bp_text.specs.Reading.{IsText}
 use Rattle.bp_text.specs.Laws.{IsReadOneWay as TextsReadOneWay}
 use Rattle.bp_cert.specs.Texts.{problem_lines, all_certificate_lines, IsProblem, IsSpeakable}
+use Rattle.bp_core.specs.Lines.{History}
+use Rattle.bp_journal.specs.Read.{IsJournalText}
+use Rattle.bp_journal.specs.Laws.{OneReading}
 use Rattle.bp_cli.specs.Words.{Word}
 use Rattle.bp_cli.specs.Tasks.{Task, check, solve, group, judge, desk, replay, report, demo, scenarios, sheet, portfolio}
 use Rattle.bp_run.specs.Command.{no_command}
 use Rattle.bp_run.specs.Statuses.{status_number}
-use Rattle.bp_run.specs.Stages.{IsReadOneWay}
+use Rattle.bp_run.specs.Stages.{Plan, done, ask, followed_by, IsReadOneWay, AreReadOneWay}
 use Rattle.bp_run.specs.TextFiles.{IsNoText, problem_file, certificate_file}
+use Rattle.bp_run.specs.JournalFiles.{journal_file, IsNoJournal}
+use Rattle.bp_run.specs.HotelPlan.{hotel_plan}
+use Rattle.bp_run.specs.Judge.{Charge, hotel_names, journal_plan}
 use Rattle.bp_run.specs.Group.{IsGroupAnswer, group_status, span_of}
 use Rattle.bp_run.specs.Commands.{command_of}
 use Rattle.bp_run.specs.declared.commands.group.GroupAnswer.{GroupAnswer}
 use Rattle.bp_run.specs.declared.commands.group.GroupAnswer.TheVariants.{Quoted, BadSpan, NoRoom}
 use Rattle.bp_run.specs.declared.end.FileError.{FileError}
 use Rattle.bp_run.specs.declared.end.FileError.TheVariants.{Text, Hotel, Table}
+use Rattle.bp_run.proofs.HotelOneWay.{hotel_plan_one_way}
 use Rattle.bp_run.proofs.CompleteLemmas.{IsSound}
-use Rattle.bp_run.proofs.EndLemmas.{verdict_number}
+use Rattle.bp_run.proofs.EndLemmas.{verdict_number, ruling_number}
 
--- both kinds of text are read in one way
+-- each kind of text is read in one way
 pub record AreTextsReadOneWay : Type 0 where
   pub problems : TextsReadOneWay problem_lines IsProblem
   pub certificates : TextsReadOneWay all_certificate_lines IsSpeakable
+  pub journals : OneReading
 
 -- a kind of text that is read in one way
 module _ {V : Type 0} (lines : V → List Line) (Within : V → Type 0) (law : TextsReadOneWay lines Within) where
@@ -48,6 +56,23 @@ problem_one_way law name = record { one_value = one_text problem_lines IsProblem
 certificate_one_way : AreTextsReadOneWay → (name : Word) → IsReadOneWay (certificate_file name)
 certificate_one_way law name =
     record { one_value = one_text all_certificate_lines IsSpeakable law.certificates; not_both = no_text all_certificate_lines IsSpeakable law.certificates }
+
+journal_one_way : AreTextsReadOneWay → (name : Word) → IsReadOneWay (journal_file name)
+journal_one_way law name = record { one_value = one_value; not_both = never }
+  where
+    one_value : (bytes : List ℕ) (v w : History) → IsJournalText bytes (Ok v) → IsJournalText bytes (Ok w) → v ≡ w
+    one_value bytes v w a b = let same = law.journals bytes (Ok v) (Ok w) (λ e. cc) (λ e. cc) a b in cc
+
+    never : (bytes : List ℕ) (v : History) (e : FileError) → IsJournalText bytes (Ok v) → IsNoJournal bytes e → ⊥
+    never bytes v (Text e) a (other, refused) =
+        let same = law.journals bytes (Ok v) (Err e) (λ x. cc) (λ x. other (cc)) a refused in cc
+    never bytes v (Hotel e) a refused = refused
+    never bytes v (Table e) a refused = refused
+
+-- a plan of files that are read in one way, and behind it another
+one_way_then : {A B : Type 0} (plan : Plan A) (after : A → Plan B) → AreReadOneWay plan → ((a : A) → AreReadOneWay (after a)) → AreReadOneWay (followed_by plan after)
+one_way_then (done x) after first next = next x
+one_way_then (ask s rest) after (here, later) next = (here, λ v. one_way_then (rest v) after (later v) next)
 
 -- where each night of a span has the units, none is short
 short_of_none : (p : Program) (span : Span) (units night : ℕ) → IsSpanWithin (length p.rooms) span × HasUnits p span units → first_short (slice_index p.rooms) span units ≡ Some night → ⊥
@@ -80,9 +105,15 @@ sound law (group p from to rooms) = record {
   one_way = (problem_one_way law p, λ v. tt);
   ends = λ g answer served right. group_ends g (span_of from to) rooms answer served right;
 }
-sound law (judge p journal) = no_sound
+sound law (judge p j) = record {
+  one_way = (problem_one_way law p, λ v. (journal_one_way law j, λ w. tt));
+  ends = λ g ruling served right. ruling_number ruling;
+}
 sound law (desk names workers) = no_sound
-sound law (replay names) = no_sound
+sound law (replay names) = record {
+  one_way = one_way_then {B = Charge} (hotel_plan (hotel_names names)) (λ inn. journal_plan names.last inn.house) (hotel_plan_one_way (hotel_names names)) (λ inn. (journal_one_way law names.last, λ w. tt));
+  ends = λ g ruling served right. ruling_number ruling;
+}
 sound law (report names) = no_sound
 sound law (demo seed nights rooms stays) = no_sound
 sound law (scenarios p changes) = no_sound

@@ -7,11 +7,13 @@ pub mod Stops
 pub mod TextFiles
 pub mod HotelFiles
 pub mod HotelPlan
+pub mod JournalFiles
 pub mod Texts
 pub mod Command
 pub mod Check
 pub mod Solve
 pub mod Group
+pub mod Judge
 pub mod Commands
 pub mod Refusals
 pub mod Lines

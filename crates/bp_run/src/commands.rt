@@ -4,18 +4,22 @@ ghost use Rattle.bp_cli.specs.Asked.{asked};
 ghost use Rattle.bp_run.specs.Landed.{HasLanded};
 ghost use Rattle.bp_run.specs.Fetches.{over};
 ghost use Rattle.bp_run.specs.Commands.{command_of, answer_status, answer_said};
-ghost use Rattle.bp_run.specs.Command.{Concludes};
+ghost use Rattle.bp_run.specs.Command.{Brings, Concludes};
+ghost use Rattle.bp_run.specs.HotelPlan.{named};
+ghost use Rattle.bp_run.specs.Judge.{ruling_command, replay_plan};
 
+use crate::house::HotelFiles;
 use crate::stop::Stop;
-use crate::{Answer, Status};
+use crate::{Answer, Ruling, Status};
 use bp_cert::text_of_certificate;
-use bp_cli::Task;
+use bp_cli::{Name, Task};
 use bp_edges::Shelf;
 use bp_types::Span;
 use std::alloc::{AllocError, Global};
 
 pub mod check;
 pub mod group;
+pub mod judge;
 pub mod solve;
 
 /// Whether the task's command is there.
@@ -24,8 +28,46 @@ pub fn has_landed(task: &Task<'_>) -> bool
 {
     matches!(
         task,
-        Task::Check { .. } | Task::Solve { .. } | Task::Group { .. }
+        Task::Check { .. }
+            | Task::Solve { .. }
+            | Task::Group { .. }
+            | Task::Judge { .. }
+            | Task::Replay { .. }
     )
+}
+
+/// The names of a hotel's four files.
+pub fn hotel_files<'a>(
+    hotel: &Name<'a>,
+    stays: &Name<'a>,
+    forecast: &Name<'a>,
+    bookings: &Name<'a>,
+) -> HotelFiles<'a>
+    ensures { named result ≡ record { hotel = hotel.now; stays = stays.now; forecast = forecast.now; bookings = bookings.now } }
+{
+    HotelFiles {
+        hotel: hotel.text(),
+        stays: stays.text(),
+        forecast: forecast.text(),
+        bookings: bookings.text(),
+    }
+}
+
+// What `replay` answers to its five names.
+fn replayed<S: Shelf>(
+    alloc: Global,
+    shelf: &mut S,
+    hotel: &Name<'_>,
+    stays: &Name<'_>,
+    forecast: &Name<'_>,
+    bookings: &Name<'_>,
+    journal: &Name<'_>,
+) -> Result<Ruling, Stop>
+    ensures { Brings (over S.held S.faults S.fetches S.last S.steady shelf.old shelf.new)
+        (ruling_command (replay_plan (record { hotel = hotel.now; stays = stays.now; forecast = forecast.now; bookings = bookings.now }) journal.now)) result }
+{
+    let hotel = hotel_files(hotel, stays, forecast, bookings);
+    judge::replay(alloc, shelf, &hotel, journal.text())
 }
 
 /// The answer to a task. Its files are read in their order, up to the first that gives no value.
@@ -53,9 +95,19 @@ pub fn answer<S: Shelf>(alloc: Global, shelf: &mut S, task: &Task<'_>) -> Result
             };
             Ok(Answer::Grouped(group::answer(alloc, shelf, problem.text(), span, *rooms)?))
         }
-        Task::Judge { .. }
-        | Task::Desk { .. }
-        | Task::Replay { .. }
+        Task::Judge { problem, journal } => {
+            Ok(Answer::Judged(judge::answer(alloc, shelf, problem.text(), journal.text())?))
+        }
+        Task::Replay {
+            hotel,
+            stays,
+            forecast,
+            bookings,
+            journal,
+        } => {
+            Ok(Answer::Judged(replayed(alloc, shelf, hotel, stays, forecast, bookings, journal)?))
+        }
+        Task::Desk { .. }
         | Task::Report { .. }
         | Task::Demo { .. }
         | Task::Scenarios { .. }
@@ -72,6 +124,7 @@ pub fn status_of(answer: &Answer) -> Status
         Answer::Checked(verdict) => check::status_of(*verdict),
         Answer::Solved(_) => Status::Done,
         Answer::Grouped(group) => group::status_of(group),
+        Answer::Judged(ruling) => judge::status_of(*ruling),
     }
 }
 
@@ -83,5 +136,6 @@ pub fn text_of(alloc: Global, answer: &Answer) -> Result<Vec<u8>, AllocError>
         Answer::Checked(verdict) => check::text_of(alloc, *verdict),
         Answer::Solved(certificate) => text_of_certificate(alloc, certificate),
         Answer::Grouped(group) => group::text_of(alloc, group),
+        Answer::Judged(ruling) => judge::text_of(alloc, *ruling),
     }
 }

@@ -1,5 +1,5 @@
 //! How a call of the program ends.
-use crate::GroupAnswer;
+use crate::{GroupAnswer, Ruling};
 use bp_cert::Verdict;
 use bp_hotelfile::HotelRefusal;
 use bp_stayfile::TableRefusal;
@@ -35,6 +35,8 @@ pub enum Answer {
     Solved(Certificate),
     /// A group was quoted, or refused.
     Grouped(GroupAnswer),
+    /// A journal was judged.
+    Judged(Ruling),
 }
 
 /// How a call ends where there is memory and the sink takes the text. Files count from 1, in the order of the words.

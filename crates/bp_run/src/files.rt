@@ -18,6 +18,7 @@ pub mod bookings;
 pub mod certificate;
 pub mod forecast;
 pub mod hotel;
+pub mod journal;
 pub mod problem;
 pub mod stays;
 

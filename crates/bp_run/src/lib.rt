@@ -8,6 +8,7 @@ mod house;
 mod lines;
 mod outcome;
 mod print;
+mod problem_house;
 mod refusals;
 mod status;
 mod stop;
@@ -16,9 +17,7 @@ mod top;
 mod unread;
 
 pub use commands::group::GroupAnswer;
+pub use commands::judge::Ruling;
 pub use end::{Answer, Cause, End, FileError};
 pub use status::Status;
 pub use top::{run, run_plain};
-
-#[cfg(test)]
-mod tests;

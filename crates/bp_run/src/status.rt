@@ -5,9 +5,9 @@ ghost use Rattle.bp_run.specs.Statuses.{status_number};
 /// How a call of the program ends, as its caller tells it apart. Each has a number of its own.
 #[derive(Clone, Copy, Debug, PartialEq, Eq)]
 pub enum Status {
-    /// The answer was written; a certificate that was checked is optimal.
+    /// The answer was written; a certificate that was checked is optimal, and a journal that was judged is legal.
     Done = 0,
-    /// A certificate was checked and is not optimal.
+    /// A certificate was checked and is not optimal, or a journal was judged and is not legal.
     Wrong = 1,
     /// The words are no plain line, or ask for a command that is not there yet.
     NotPlain = 2,

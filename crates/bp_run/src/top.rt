@@ -33,6 +33,7 @@ pub fn run_plain<S: Shelf, K: Sink>(
 {
     law::problems_have_one_spelling();
     law::certificates_have_one_spelling();
+    bp_journal::law::journals_have_one_spelling();
     match end_of(alloc, words, shelf) {
         Ok(end) => finish(alloc, &end, out).number(),
         Err(Memory) => Status::NoMemory.number(),

@@ -20,11 +20,95 @@ prices 0 100 40
 end
 ";
 
-/// Each file's name and text. Those of one letter are the problem and its certificate.
+/// One session books the first stay of the problem, and leaves.
+const JOURNAL: &str = "journal 1
+0 0 publish 0 vector 0
+value 250
+sell 0 1 1 1
+prices 0 100 40
+1 1 enrol done
+2 1 book 0 accepted 0 100
+3 1 leave done
+end
+";
+
+/// One night fewer rooms than are sold, as the bookings of one more stay have it.
+const RESIZED: &str = "journal 1
+0 0 publish 0 vector 0
+value 100
+sell 0 0 1 1
+prices 0 110 40
+1 1 enrol done
+2 1 resize 1 0 belowsold 1
+3 1 leave done
+end
+";
+
+/// A hotel whose opening problem is that problem.
+const HOTEL: &str = "name = \"A\"
+first_night = \"2025-07-01\"
+nights = 3
+rooms = 2
+[[night]]
+date = \"2025-07-02\"
+rooms = 1
+";
+
+const STAYS: &str = "code,arrival,nights,rate
+P0,2025-07-01,2,100
+P1,2025-07-02,2,150
+P2,2025-07-01,1,60
+P3,2025-07-03,1,40
+";
+
+const FORECAST: &str = "code,count
+P0,3
+P1,1
+P2,1
+P3,5
+";
+
+/// Each file's name and text. Those of one letter are the problem, its certificate and its journal, and the files of a
+/// hotel.
 pub(crate) fn files() -> &'static [(&'static str, &'static str)] {
     &[
         ("A", PROBLEM),
         ("C", CERTIFICATE),
+        ("J", JOURNAL),
+        ("H", HOTEL),
+        ("S", STAYS),
+        ("F", FORECAST),
+        ("B", "code,count\n"),
+        // Bookings, and files of a hotel that are refused.
+        ("one-sold", "code,count\nP1,1\n"),
+        ("two-sold", "code,count\nP0,1\nP1,1\n"),
+        ("no-toml", "nights = "),
+        ("no-night", "name = \"A\"\n"),
+        ("no-nights", "code,arrival,rate\n"),
+        (
+            "past-the-last",
+            "code,arrival,nights,rate\nP0,2025-07-03,2,100\n",
+        ),
+        ("no-code", "code,count\nP4,3\n"),
+        // Journals.
+        ("resized", RESIZED),
+        ("no-vector", "journal 1\nend\n"),
+        (
+            "other-value",
+            "journal 1\n0 0 publish 0 vector 0\nvalue 251\nsell 0 1 1 1\nprices 0 100 40\nend\n",
+        ),
+        (
+            "no-enrol",
+            "journal 1\n0 0 publish 0 vector 0\nvalue 250\nsell 0 1 1 1\nprices 0 100 40\n1 1 book 0 accepted 0 100\nend\n",
+        ),
+        (
+            "other-reply",
+            "journal 1\n0 0 publish 0 vector 0\nvalue 250\nsell 0 1 1 1\nprices 0 100 40\n1 1 enrol done\n2 1 book 0 accepted 0 99\nend\n",
+        ),
+        (
+            "zero-in-journal",
+            "journal 1\n0 0 publish 0 vector 0\nvalue 250\nsell 0 1 1 1\nprices 0 100 40\n1 1 enrol done\n2 1 book 00 accepted 0 100\nend\n",
+        ),
         // Certificates of the problem that are not optimal.
         (
             "short-sell",

@@ -1,0 +1,40 @@
+use Rattle.std.proofs.Common.{refl}
+use Rattle.std.proofs.lemmas.Result.{err_from_is_err_and}
+use Rattle.bp_run.specs.HotelPlan.{hotel_plan, named}
+use Rattle.bp_run.specs.Judge.{ruling_command, replay_plan, journal_plan}
+use Rattle.bp_run.specs.declared.house.OpenHotel.{OpenHotel}
+use Rattle.bp_run.proofs.StageLemmas.{follows_both, follows_first, follows_stage, follows_stop, follows_made, follows_nothing, leaves_same}
+use Rattle.bp_run.proofs.EndLemmas.{brings_stop, brings_answer}
+use Rattle.bp_run.proofs.commands.judge.replay.Goals as goal
+
+pub returns-in_err-open : goal.returns-in_err-open
+returns-in_err-open g c =
+    let p = err_from_is_err_and c.from_residual.result c.from_residual.ensures.1 in
+    rw (p.1, p.2)
+    (brings_stop _ (ruling_command (replay_plan (named c.args.hotel.now) c.args.journal.now)) 6 _
+    (follows_first _ (hotel_plan (named c.args.hotel.now)) (λ (inn : OpenHotel). journal_plan c.args.journal.now inn.house) 1 5 6 _ c.in_err-open.ensures))
+
+pub returns-in_err-journal : goal.returns-in_err-journal
+returns-in_err-journal g c =
+    let p = err_from_is_err_and c.from_residual-in_err-journal.result c.from_residual-in_err-journal.ensures.1 in
+    rw (p.1, p.2)
+    (brings_stop _ (ruling_command (replay_plan (named c.args.hotel.now) c.args.journal.now)) 6 _
+    (follows_both _ _ _ (hotel_plan (named c.args.hotel.now)) (λ (inn : OpenHotel). journal_plan c.args.journal.now inn.house) 1 5 6 _ _ c.in_ok-open.ensures
+    (follows_stop _ _ _ _ _ _ c.in_err-journal.ensures.follows)))
+
+pub returns-in_err-ruled : goal.returns-in_err-ruled
+returns-in_err-ruled g c =
+    let p = err_from_is_err_and c.from_residual-in_err-ruled.result c.from_residual-in_err-ruled.ensures.1 in
+    rw (p.1)
+    (brings_stop _ (ruling_command (replay_plan (named c.args.hotel.now) c.args.journal.now)) 6 _
+    (follows_both _ _ _ (hotel_plan (named c.args.hotel.now)) (λ (inn : OpenHotel). journal_plan c.args.journal.now inn.house) 1 5 6 _ _ c.in_ok-open.ensures
+    (follows_stage _ _ _ _ _ _ _ _ refl c.in_ok-journal.ensures.follows
+    (follows_nothing _ _ _ _ _ p.2 (leaves_same _)))))
+
+pub returns : goal.returns
+returns g c =
+    brings_answer _ (ruling_command (replay_plan (named c.args.hotel.now) c.args.journal.now)) 6 _ _
+    (follows_both _ _ _ (hotel_plan (named c.args.hotel.now)) (λ (inn : OpenHotel). journal_plan c.args.journal.now inn.house) 1 5 6 _ _ c.in_ok-open.ensures
+    (follows_stage _ _ _ _ _ _ _ _ refl c.in_ok-journal.ensures.follows
+    (follows_made _ _ _ _ _ refl refl (leaves_same _))))
+    c.in_ok-ruled.ensures

@@ -1,4 +1,4 @@
-use Rattle.std.proofs.Common.{◌≡◌, arith, ◌∙◌}
+use Rattle.std.proofs.Common.{arith}
 use Rattle.std.proofs.lemmas.List.{take_more}
 use Rattle.bp_types.specs.Program.{no_stay}
 use Rattle.bp_run.proofs.problem_house.stays_of.Goals as goal

@@ -37,4 +37,4 @@ returns g c =
     (follows_stage _ _ _ _ _ _ _ _ refl c.in_ok-problem.ensures.follows
     (follows_stage _ _ _ _ _ _ _ _ refl c.in_ok-journal.ensures.follows
     (follows_made _ _ _ _ _ refl refl (leaves_same _))))
-    (rw ← c.in_ok-house.ensures c.in_ok-ruled.ensures)
+    (rw (← c.in_ok-house.ensures) c.in_ok-ruled.ensures)

@@ -1,29 +1,36 @@
 -- From the files of a command to the end of a call. The proof of a command cites `brings_stop` and `brings_answer`, that
--- of the whole program `serves` and `serves_nothing`.
-use Rattle.std.proofs.Common.{◌≡◌, ◌≢◌, inl, inr, ℕ, ◌≤◌, refl, ap, sym, subst, ◌∙◌, arith, List, [], ◌∷◌, Result, Ok, Err}
-use Rattle.std.specs.Prelude.{codes}
+-- of the whole program `serves`, `serves_nothing` and `known`.
+use Rattle.std.proofs.Common.{◌≡◌, ◌≢◌, inl, inr, ℕ, ◌≤◌, ◌⊎◌, Bool, true, false, refl, ap, sym, subst, ◌∙◌, arith, List, [], ◌∷◌, Option, None, Some, Result, Ok, Err}
+use Rattle.std.specs.Prelude.{codes, if◌then◌else◌, IfOk}
 use Rattle.bp_cert.specs.declared.verdict.Verdict.{Verdict}
 use Rattle.bp_cert.specs.declared.verdict.Verdict.TheVariants.{WrongLength, PriceTooGreat, AboveForecast, Overfull, Gap, Misvalued, Optimal}
 use Rattle.bp_cli.specs.Words.{Word}
-use Rattle.bp_cli.specs.Tasks.{check, solve, group, judge, desk, replay, report, demo, scenarios, sheet, portfolio}
-use Rattle.bp_run.specs.Landed.{AreServed, NamesThreads, MayStartThreads}
+use Rattle.bp_cli.specs.Tasks.{Task, Asks, check, solve, group, judge, desk, replay, report, demo, scenarios, sheet, portfolio}
+use Rattle.bp_types.specs.declared.limits.TheConstants.{MOST_WORKERS}
+use Rattle.bp_cli.specs.Laws.{TasksAreUnique}
+use Rattle.bp_cli.specs.Tasks.{AsksWorkers}
+use Rattle.bp_desk_run.specs.declared.callers.Ran.{Ran as RanValue}
+use Rattle.bp_run.specs.declared.outcome.DeskLine.{DeskLine}
+use Rattle.bp_run.specs.Landed.{HasLanded, IsPlainTask, IsDesk, AreServed, NamesThreads, MayStartThreads}
 use Rattle.bp_run.specs.Statuses.{status_number}
 use Rattle.bp_run.specs.Fetches.{Fetches}
 use Rattle.bp_run.specs.Stops.{Follows}
-use Rattle.bp_run.specs.Command.{Command, Brings}
+use Rattle.bp_run.specs.Command.{Command, Brings, IsStopped, IsAnswered, IsAnswerOf}
+use Rattle.bp_run.specs.Desk.{desk_command}
 use Rattle.bp_run.specs.Check.{verdict_status}
 use Rattle.bp_run.specs.Group.{group_status}
-use Rattle.bp_run.specs.HotelPlan.{HotelNames}
+use Rattle.bp_run.specs.HotelPlan.{HotelNames, named}
 use Rattle.bp_run.specs.Judge.{ruling_status, ruling_command, replay_plan}
-use Rattle.bp_run.specs.Commands.{answer_status}
+use Rattle.bp_run.specs.Commands.{command_of, answer_status, IsPlainAnswer}
 use Rattle.bp_run.specs.Lines.{said, end_status}
 use Rattle.bp_run.specs.Puts.{Puts, Prints}
-use Rattle.bp_run.specs.Ends.{HasEnd, Outcome, HoldsAll, IsComplete, Serves}
+use Rattle.bp_run.specs.Ends.{HasEnd, IsDeskOf, five_names, HasStopped, IsPlainEnd, Outcome, HoldsAll, IsComplete, Serves}
 use Rattle.bp_run.specs.declared.stop.Stop.{Stop}
+use Rattle.bp_run.specs.declared.stop.Stop.TheVariants as stops
 use Rattle.bp_run.specs.declared.status.Status.{Status}
 use Rattle.bp_run.specs.declared.status.Status.TheVariants as status
 use Rattle.bp_run.specs.declared.end.Answer.{Answer}
-use Rattle.bp_run.specs.declared.end.Answer.TheVariants.{Checked, Solved, Grouped, Judged}
+use Rattle.bp_run.specs.declared.end.Answer.TheVariants.{Checked, Solved, Grouped, Judged, Ran}
 use Rattle.bp_run.specs.declared.commands.group.GroupAnswer.{GroupAnswer}
 use Rattle.bp_run.specs.declared.commands.group.GroupAnswer.TheVariants.{Quoted, BadSpan, NoRoom}
 use Rattle.bp_run.specs.declared.commands.judge.Ruling.{Ruling}
@@ -69,29 +76,78 @@ pub ruling_number : (ruling : Ruling) → status_number (ruling_status ruling) �
 ruling_number (Legal entries) = omega arith
 ruling_number (Illegal place rule) = omega arith
 
--- an answer is done, wrong or refused
-answer_number : (answer : Answer) → status_number (answer_status answer) ≤ 3
-answer_number (Checked verdict) = let least = verdict_number verdict in omega arith
-answer_number (Solved claim) = omega arith
-answer_number (Grouped answer) = group_number answer
-answer_number (Judged ruling) = let least = ruling_number ruling in omega arith
+-- a run is done or unfinished
+run_number : (whole : Bool) → (status_number (if whole then status.Done else status.Unfinished) ≤ 3) ⊎ (status_number (if whole then status.Done else status.Unfinished) ≡ 7)
+run_number true = inl (omega arith)
+run_number false = inr refl
+
+-- an answer is done, wrong, refused or unfinished
+answer_number : (answer : Answer) → (status_number (answer_status answer) ≤ 3) ⊎ (status_number (answer_status answer) ≡ 7)
+answer_number (Checked verdict) = let least = verdict_number verdict in inl (omega arith)
+answer_number (Solved claim) = inl (omega arith)
+answer_number (Grouped answer) = inl (group_number answer)
+answer_number (Judged ruling) = let least = ruling_number ruling in inl (omega arith)
+answer_number (Ran ran) = run_number ran.whole
+
+plain_answer_number : (answer : Answer) → IsPlainAnswer answer → status_number (answer_status answer) ≤ 3
+plain_answer_number (Checked verdict) plain = let least = verdict_number verdict in omega arith
+plain_answer_number (Solved claim) plain = omega arith
+plain_answer_number (Grouped answer) plain = group_number answer
+plain_answer_number (Judged ruling) plain = let least = ruling_number ruling in omega arith
+plain_answer_number (Ran ran) plain = absurd plain
 
 -- so no answer is a fault
 pub answer_is_no_fault : (answer : Answer) → answer_status answer ≢ status.Fault
-answer_is_no_fault answer is = let small = answer_number answer in let four = ap status_number is in omega arith
+answer_is_no_fault answer is =
+    let four = ap status_number is in elim (answer_number answer) [
+      | inl small ↦ omega (arith, small, four)
+      | inr seven ↦ omega (arith, seven, four)
+    ]
 
--- the status of an end is at most that of a fault
-end_number : (end : End) → status_number (end_status end) ≤ 4
-end_number NotPlain = omega arith
-end_number (Fault file) = omega arith
-end_number (Refused file cause) = omega arith
-end_number (Answered answer) = let small = answer_number answer in omega arith
+-- the status of an end is at most that of a fault, or that of a run that was cut
+end_number : (end : End) → (status_number (end_status end) ≤ 4) ⊎ (status_number (end_status end) ≡ 7)
+end_number NotPlain = inl (omega arith)
+end_number (Fault file) = inl (omega arith)
+end_number (Refused file cause) = inl (omega arith)
+end_number (Answered answer) = elim (answer_number answer) [
+  | inl small ↦ inl (omega (arith, small))
+  | inr seven ↦ inr seven
+]
+
+plain_end_number : (end : End) → IsPlainEnd end → status_number (end_status end) ≤ 4
+plain_end_number NotPlain plain = omega arith
+plain_end_number (Fault file) plain = omega arith
+plain_end_number (Refused file cause) plain = omega arith
+plain_end_number (Answered answer) plain = let small = plain_answer_number answer plain in omega arith
+
+not_four : (n : ℕ) → (n ≤ 3) ⊎ (n ≡ 7) → n ≡ 4 → ⊥
+not_four n (inl small) four = omega (arith, small, four)
+not_four n (inr seven) four = omega (arith, seven, four)
+
+-- such a status is neither that of a cut nor that of no memory
+not_five : (n : ℕ) → (n ≤ 4) ⊎ (n ≡ 7) → n ≡ 5 → ⊥
+not_five n (inl small) five = omega (arith, small, five)
+not_five n (inr seven) five = omega (arith, seven, five)
+
+not_six : (n : ℕ) → (n ≤ 4) ⊎ (n ≡ 7) → n ≡ 6 → ⊥
+not_six n (inl small) six = omega (arith, small, six)
+not_six n (inr seven) six = omega (arith, seven, six)
+
+at_most_seven : (n : ℕ) → (n ≤ 4) ⊎ (n ≡ 7) → n ≤ 7
+at_most_seven n (inl small) = omega (arith, small)
+at_most_seven n (inr seven) = omega (arith, seven)
 
 -- an end that is written has a status that is known
-pub known : (out : Puts) (end : End) (s : Status) → Prints out end s → status_number s ≤ 6
-known out end s (inl (is, written)) = let small = end_number end in let same = ap status_number is in omega arith
+pub known : (out : Puts) (end : End) (s : Status) → Prints out end s → status_number s ≤ 7
+known out end s (inl (is, written)) = let small = at_most_seven _ (end_number end) in let same = ap status_number is in omega arith
 known out end s (inr (inl (is, cut))) = let same = ap status_number is in omega arith
 known out end s (inr (inr (is, part))) = let same = ap status_number is in omega arith
+
+-- one that one thread comes to is no cut run
+pub plain_known : (out : Puts) (end : End) (s : Status) → IsPlainEnd end → Prints out end s → status_number s ≤ 6
+plain_known out end s plain (inl (is, written)) = let small = plain_end_number end plain in let same = ap status_number is in omega arith
+plain_known out end s plain (inr (inl (is, cut))) = let same = ap status_number is in omega arith
+plain_known out end s plain (inr (inr (is, part))) = let same = ap status_number is in omega arith
 
 -- an end has its status and its text
 outcome : (words : List Word) (shelf : Fetches) (end : End) → HasEnd words shelf end → Outcome words shelf (status_number (end_status end)) (said end)
@@ -105,13 +161,13 @@ module _ (words : List Word) (shelf : Fetches) (out : Puts) (end : End) (has : H
   at_end : (s : Status) → Prints out end s → Serves words shelf out (status_number s)
   at_end s (inl (is, written)) =
       let same : status_number s ≡ status_number (end_status end) = ap status_number is in
-      let below = end_number end in record {
+      let apart = end_number end in record {
         done = λ not_cut not_empty. (let P : ℕ → Type 0 = λ n. Outcome words shelf n (said end) in
             record { text = said end; outcome = subst P (sym same) (outcome words shelf end has); written = written });
-        cut_off = λ five. absurd (omega arith);
-        no_memory = λ six. absurd (omega arith);
+        cut_off = λ five. absurd (not_five _ apart (sym same ∙ five));
+        no_memory = λ six. absurd (not_six _ apart (sym same ∙ six));
         steady_shelf = λ steady holds four. no_fault steady holds (fault_of end (sym same ∙ four));
-        steady_sink = λ steady five. absurd (omega arith);
+        steady_sink = λ steady five. not_five _ apart (sym same ∙ five);
         complete = λ steady sink all. (let few = small steady all in inl (omega arith));
       }
     where
@@ -119,7 +175,7 @@ module _ (words : List Word) (shelf : Fetches) (out : Puts) (end : End) (has : H
       fault_of NotPlain four = absurd (omega arith)
       fault_of (Fault file) four = refl
       fault_of (Refused file cause) four = absurd (omega arith)
-      fault_of (Answered answer) four = absurd (let few = answer_number answer in omega arith)
+      fault_of (Answered answer) four = absurd (not_four _ (answer_number answer) four)
   at_end s (inr (inl (is, cut))) =
       let same : status_number s ≡ 5 = ap status_number is in record {
         done = λ not_cut not_empty. absurd (not_cut same);
@@ -161,23 +217,87 @@ threads_apart first command is not_desk not_scenarios not_portfolio names = elim
   | inr (inr e) ↦ not_portfolio (sym is ∙ e)
 ]
 
--- the commands that may start threads are not there yet
-pub threads_not_served : (words : List Word) → MayStartThreads words → AreServed words → ⊥
-threads_not_served [] may served = may
-threads_not_served (first ∷ rest) may (check p c, asks, landed) =
-    let is : first ≡ codes "check" = cc in threads_apart first (codes "check") is (λ e. cc) (λ e. cc) (λ e. cc) may
-threads_not_served (first ∷ rest) may (solve p, asks, landed) =
-    let is : first ≡ codes "solve" = cc in threads_apart first (codes "solve") is (λ e. cc) (λ e. cc) (λ e. cc) may
-threads_not_served (first ∷ rest) may (group p from to rooms, asks, landed) =
+-- the tasks that are there and may start threads
+pub threads_task : (words : List Word) (task : Task) → MayStartThreads words → Asks words task → HasLanded task → IsDesk task
+threads_task [] task may asks landed = absurd may
+threads_task (first ∷ rest) (check p c) may asks landed =
+    let is : first ≡ codes "check" = cc in absurd (threads_apart first (codes "check") is (λ e. cc) (λ e. cc) (λ e. cc) may)
+threads_task (first ∷ rest) (solve p) may asks landed =
+    let is : first ≡ codes "solve" = cc in absurd (threads_apart first (codes "solve") is (λ e. cc) (λ e. cc) (λ e. cc) may)
+threads_task (first ∷ rest) (group p from to rooms) may asks landed =
     let words = asks.words_are in
-    let is : first ≡ codes "group" = cc in threads_apart first (codes "group") is (λ e. cc) (λ e. cc) (λ e. cc) may
-threads_not_served (first ∷ rest) may (judge p journal, asks, landed) =
-    let is : first ≡ codes "judge" = cc in threads_apart first (codes "judge") is (λ e. cc) (λ e. cc) (λ e. cc) may
-threads_not_served (first ∷ rest) may (desk names workers, asks, landed) = landed
-threads_not_served (first ∷ rest) may (replay names, asks, landed) =
-    let is : first ≡ codes "replay" = cc in threads_apart first (codes "replay") is (λ e. cc) (λ e. cc) (λ e. cc) may
-threads_not_served (first ∷ rest) may (report names, asks, landed) = landed
-threads_not_served (first ∷ rest) may (demo seed nights rooms stays, asks, landed) = landed
-threads_not_served (first ∷ rest) may (scenarios p changes, asks, landed) = landed
-threads_not_served (first ∷ rest) may (sheet p, asks, landed) = landed
-threads_not_served (first ∷ rest) may (portfolio list workers, asks, landed) = landed
+    let is : first ≡ codes "group" = cc in absurd (threads_apart first (codes "group") is (λ e. cc) (λ e. cc) (λ e. cc) may)
+threads_task (first ∷ rest) (judge p j) may asks landed =
+    let is : first ≡ codes "judge" = cc in absurd (threads_apart first (codes "judge") is (λ e. cc) (λ e. cc) (λ e. cc) may)
+threads_task (first ∷ rest) (desk names workers) may asks landed = (names, workers, refl)
+threads_task (first ∷ rest) (replay names) may asks landed =
+    let is : first ≡ codes "replay" = cc in absurd (threads_apart first (codes "replay") is (λ e. cc) (λ e. cc) (λ e. cc) may)
+threads_task (first ∷ rest) (report names) may asks landed = absurd landed
+threads_task (first ∷ rest) (demo seed nights rooms stays) may asks landed = absurd landed
+threads_task (first ∷ rest) (scenarios p changes) may asks landed = absurd landed
+threads_task (first ∷ rest) (sheet p) may asks landed = absurd landed
+threads_task (first ∷ rest) (portfolio list workers) may asks landed = absurd landed
+
+-- and those that run in one thread
+plain_task : (words : List Word) (task : Task) → (MayStartThreads words → ⊥) → Asks words task → HasLanded task → IsPlainTask task
+plain_task words (check p c) single asks landed = tt
+plain_task words (solve p) single asks landed = tt
+plain_task words (group p from to rooms) single asks landed = tt
+plain_task words (judge p j) single asks landed = tt
+plain_task words (desk names workers) single asks landed = single (subst MayStartThreads (sym asks.words_are) (inl refl))
+plain_task words (replay names) single asks landed = tt
+plain_task words (report names) single asks landed = landed
+plain_task words (demo seed nights rooms stays) single asks landed = landed
+plain_task words (scenarios p changes) single asks landed = landed
+plain_task words (sheet p) single asks landed = landed
+plain_task words (portfolio list workers) single asks landed = landed
+
+-- words that ask for another task than the ones that are there are not served
+pub not_plain_task : TasksAreUnique → (words : List Word) (task : Task) → (MayStartThreads words → ⊥) → Asks words task → (IsPlainTask task → ⊥) → AreServed words → ⊥
+not_plain_task unique words task single asks not_plain (t, asks_t, landed) =
+    not_plain (subst IsPlainTask (unique words t task asks_t asks) (plain_task words t single asks_t landed))
+
+pub not_desk_task : TasksAreUnique → (words : List Word) (task : Task) → MayStartThreads words → Asks words task → (IsDesk task → ⊥) → AreServed words → ⊥
+not_desk_task unique words task may asks not_desk (t, asks_t, landed) =
+    not_desk (subst IsDesk (unique words t task asks_t asks) (threads_task words t may asks_t landed))
+
+-- a command that was stopped at a file, and the end of its call
+module _ {E : Type 0} (words : List Word) (shelf : Fetches) (task : Task) (asks : Asks words task) where
+  pub stopped_has : (stop : Stop) (result : Result End E) → IsStopped shelf (command_of task) stop → HasStopped stop result → IfOk result (HasEnd words shelf)
+  stopped_has stops.Memory (Ok end) is e = absurd e
+  stopped_has stops.Memory (Err x) is e = tt
+  stopped_has (stops.Fault k) result is e = rw e (task, asks, is.stops)
+  stopped_has (stops.Refused k cause) result is e = rw e (task, asks, is.stops)
+
+  pub stopped_unfailing : (stop : Stop) (result : Result End E) → IsStopped shelf (command_of task) stop → HasStopped stop result
+      → shelf.before.steady → HoldsAll words shelf.before.held → IfOk result (λ end. end_status end ≢ status.Fault)
+  stopped_unfailing stops.Memory (Ok end) is e steady holds = absurd e
+  stopped_unfailing stops.Memory (Err x) is e steady holds = tt
+  stopped_unfailing (stops.Fault k) result is e steady holds = absurd (is.unfailing steady holds.files holds.told (holds.each task asks) tt)
+  stopped_unfailing (stops.Refused k cause) result is e steady holds = rw e (λ same. cc)
+
+  pub stopped_plain : (stop : Stop) (result : Result End E) → HasStopped stop result → IfOk result IsPlainEnd
+  stopped_plain stops.Memory (Ok end) e = absurd e
+  stopped_plain stops.Memory (Err x) e = tt
+  stopped_plain (stops.Fault k) result e = rw e tt
+  stopped_plain (stops.Refused k cause) result e = rw e tt
+
+-- the line of a desk, and the end of its call
+module _ (words : List Word) (shelf : Fetches) (task : Task) (line : DeskLine) (asks : Asks words task) (is : IsDeskOf task line) where
+  pub ran_has : (ran : RanValue) → IsAnswered shelf.before.held (desk_command (named line.hotel) line.script.now line.workers) ran → HasEnd words shelf (Answered (Ran ran))
+  ran_has ran answered =
+      let P : Task → Type 0 = λ t. IsAnswerOf shelf.before.held (command_of t) (Ran ran) in
+      (task, asks, subst P (sym is) (record { own = ran; is = refl; answered = answered }))
+
+  pub ran_stopped : (stop : Stop) → IsStopped shelf (desk_command (named line.hotel) line.script.now line.workers) stop → IsStopped shelf (command_of task) stop
+  ran_stopped stop stopped = let P : Task → Type 0 = λ t. IsStopped shelf (command_of t) stop in subst P (sym is) stopped
+
+given_few : (given : Option Word) (workers : ℕ) → AsksWorkers given workers → workers ≤ MOST_WORKERS
+given_few None workers is = omega (arith, is)
+given_few (Some word) workers (number, few) = few
+
+-- and it has no more workers than there may be
+pub few_workers : (words : List Word) (task : Task) (line : DeskLine) → Asks words task → IsDeskOf task line → line.workers ≤ MOST_WORKERS
+few_workers words task line asks is =
+    let desk_asks : Asks words (desk (five_names (named line.hotel) line.script.now) line.workers) = subst (Asks words) is asks in
+    given_few desk_asks.given line.workers desk_asks.workers_are

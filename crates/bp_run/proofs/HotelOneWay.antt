@@ -1,10 +1,12 @@
 -- The files of a hotel are read in one way. A command that reads them cites `hotel_plan_one_way`.
 use Rattle.std.proofs.Common.{ℕ, List}
+use Rattle.bp_types.specs.declared.command.Command.{Command}
 use Rattle.bp_hotelfile.specs.Season.{Season}
 use Rattle.bp_stayfile.specs.StayList.{StayList}
 use Rattle.bp_cli.specs.Words.{Word}
 use Rattle.bp_run.specs.Stages.{IsReadOneWay, AreReadOneWay}
 use Rattle.bp_run.specs.HotelFiles.{hotel_file, stays_of_hotel, forecast_of_stays, bookings_of_hotel}
+use Rattle.bp_run.specs.ScriptFiles.{script_of_hotel}
 use Rattle.bp_run.specs.HotelPlan.{HotelNames, hotel_plan}
 use Rattle.bp_run.specs.declared.end.FileError.{FileError}
 use Rattle.bp_run.specs.declared.end.FileError.TheVariants.{Text, Hotel, Table}
@@ -50,3 +52,12 @@ hotel_plan_one_way names = (
     λ listed. (forecast_one_way listed names.forecast, λ stays. (bookings_one_way season stays names.bookings, λ sold. tt)),
   ),
 )
+
+-- and a script of their stays
+pub script_one_way : (season : Season) (codes : List (List ℕ)) (name : Word) → IsReadOneWay (script_of_hotel season codes name)
+script_one_way season codes name = record { one_value = λ bytes v w a b. cc; not_both = never }
+  where
+    never : (bytes : List ℕ) (v : List (List Command)) (e : FileError) → (script_of_hotel season codes name).Accepts bytes v → (script_of_hotel season codes name).Refuses bytes e → ⊥
+    never bytes v (Text e) a refused = refused
+    never bytes v (Hotel e) a refused = refused
+    never bytes v (Table e) a refused = cc

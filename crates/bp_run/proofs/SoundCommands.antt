@@ -1,6 +1,6 @@
 -- What each kind of file and each command owes to completeness.
-use Rattle.std.proofs.Common.{◌≡◌, ◌≤◌, ◌-◌, ℕ, arith, List, length, Some, Ok, Err, slice_index}
-use Rattle.std.specs.Prelude.{nat_lt}
+use Rattle.std.proofs.Common.{◌≡◌, Bool, true, false, ◌≤◌, ◌-◌, ℕ, arith, List, length, Some, Ok, Err, slice_index}
+use Rattle.std.specs.Prelude.{nat_lt, if◌then◌else◌}
 use Rattle.std.proofs.lemmas.Bool.{ltb-true}
 use Rattle.bp_types.specs.Program.{Program}
 use Rattle.bp_types.specs.declared.stay.Span.{Span}
@@ -21,6 +21,8 @@ use Rattle.bp_run.specs.Statuses.{status_number}
 use Rattle.bp_run.specs.Stages.{Plan, done, ask, followed_by, IsReadOneWay, AreReadOneWay}
 use Rattle.bp_run.specs.TextFiles.{IsNoText, problem_file, certificate_file}
 use Rattle.bp_run.specs.JournalFiles.{journal_file, IsNoJournal}
+use Rattle.bp_run.specs.Desk.{Staged, script_plan}
+use Rattle.bp_run.specs.declared.status.Status.TheVariants as status
 use Rattle.bp_run.specs.HotelPlan.{hotel_plan}
 use Rattle.bp_run.specs.Judge.{Charge, hotel_names, journal_plan}
 use Rattle.bp_run.specs.Group.{IsGroupAnswer, group_status, span_of}
@@ -29,7 +31,7 @@ use Rattle.bp_run.specs.declared.commands.group.GroupAnswer.{GroupAnswer}
 use Rattle.bp_run.specs.declared.commands.group.GroupAnswer.TheVariants.{Quoted, BadSpan, NoRoom}
 use Rattle.bp_run.specs.declared.end.FileError.{FileError}
 use Rattle.bp_run.specs.declared.end.FileError.TheVariants.{Text, Hotel, Table}
-use Rattle.bp_run.proofs.HotelOneWay.{hotel_plan_one_way}
+use Rattle.bp_run.proofs.HotelOneWay.{hotel_plan_one_way, script_one_way}
 use Rattle.bp_run.proofs.CompleteLemmas.{IsSound}
 use Rattle.bp_run.proofs.EndLemmas.{verdict_number, ruling_number}
 
@@ -91,6 +93,11 @@ group_ends p span rooms (NoRoom night) served is = absurd (short_of_none p span 
 no_sound : IsSound no_command
 no_sound = record { one_way = tt; ends = λ g own served right. absurd own }
 
+-- a whole run is done
+whole_ends : (whole : Bool) → whole ≡ true → status_number (if whole then status.Done else status.Unfinished) ≤ 1
+whole_ends true is = omega arith
+whole_ends false is = absurd (cc)
+
 -- each command
 pub sound : AreTextsReadOneWay → (task : Task) → IsSound (command_of task)
 sound law (check p c) = record {
@@ -109,7 +116,10 @@ sound law (judge p j) = record {
   one_way = (problem_one_way law p, λ v. (journal_one_way law j, λ w. tt));
   ends = λ g ruling served right. ruling_number ruling;
 }
-sound law (desk names workers) = no_sound
+sound law (desk names workers) = record {
+  one_way = one_way_then {B = Staged} (hotel_plan (hotel_names names)) (λ inn. script_plan names.last inn) (hotel_plan_one_way (hotel_names names)) (λ inn. (script_one_way inn.hotel inn.stays.codes names.last, λ w. tt));
+  ends = λ g ran served right. whole_ends ran.whole (right.room served);
+}
 sound law (replay names) = record {
   one_way = one_way_then {B = Charge} (hotel_plan (hotel_names names)) (λ inn. journal_plan names.last inn.house) (hotel_plan_one_way (hotel_names names)) (λ inn. (journal_one_way law names.last, λ w. tt));
   ends = λ g ruling served right. ruling_number ruling;

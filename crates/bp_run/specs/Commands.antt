@@ -6,11 +6,12 @@ use Rattle.bp_run.specs.Command.{Command, no_command}
 use Rattle.bp_run.specs.Check.{check_command, verdict_line, verdict_status}
 use Rattle.bp_run.specs.Solve.{solve_command}
 use Rattle.bp_run.specs.Judge.{ruling_command, judge_plan, replay_plan, hotel_names, ruling_line, ruling_status}
+use Rattle.bp_run.specs.Desk.{desk_command, run_said, run_status}
 use Rattle.bp_run.specs.Group.{group_command, group_said, group_status, span_of}
 use Rattle.bp_run.specs.declared.status.Status.{Status}
 use Rattle.bp_run.specs.declared.status.Status.TheVariants.{Done}
 use Rattle.bp_run.specs.declared.end.Answer.{Answer}
-use Rattle.bp_run.specs.declared.end.Answer.TheVariants.{Checked, Solved, Grouped, Judged}
+use Rattle.bp_run.specs.declared.end.Answer.TheVariants.{Checked, Solved, Grouped, Judged, Ran}
 
 -- the command of a task
 abbrev pub command_of : Task → Command
@@ -18,7 +19,7 @@ command_of (check p c) = check_command p c
 command_of (solve p) = solve_command p
 command_of (group p from to rooms) = group_command p (span_of from to) rooms
 command_of (judge p journal) = ruling_command (judge_plan p journal)
-command_of (desk names workers) = no_command
+command_of (desk names workers) = desk_command (hotel_names names) names.last workers
 command_of (replay names) = ruling_command (replay_plan (hotel_names names) names.last)
 command_of (report names) = no_command
 command_of (demo seed nights rooms stays) = no_command
@@ -32,6 +33,7 @@ answer_said (Checked verdict) = verdict_line verdict
 answer_said (Solved claim) = certificate_text claim
 answer_said (Grouped answer) = group_said answer
 answer_said (Judged ruling) = ruling_line ruling
+answer_said (Ran ran) = run_said ran
 
 -- the status of an answer
 abbrev pub answer_status : Answer → Status
@@ -39,3 +41,12 @@ answer_status (Checked verdict) = verdict_status verdict
 answer_status (Solved claim) = Done
 answer_status (Grouped answer) = group_status answer
 answer_status (Judged ruling) = ruling_status ruling
+answer_status (Ran ran) = run_status ran
+
+-- an answer that one thread gives
+abbrev pub IsPlainAnswer : Answer → Type 0
+IsPlainAnswer (Checked verdict) = Unit {0}
+IsPlainAnswer (Solved claim) = Unit {0}
+IsPlainAnswer (Grouped answer) = Unit {0}
+IsPlainAnswer (Judged ruling) = Unit {0}
+IsPlainAnswer (Ran ran) = ⊥

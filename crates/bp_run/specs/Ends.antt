@@ -1,19 +1,23 @@
 -- How a call ends: its words and files, and the status and the text that they have.
-use Rattle.std.specs.Prelude.{◌≡◌, ◌≢◌, ◌⊎◌, ℕ, ◌≤◌, List, Option, None, Some}
+use Rattle.std.specs.Prelude.{◌≡◌, ◌≢◌, ◌⊎◌, ℕ, ◌≤◌, List, Option, None, Some, Result, Ok, IsErr}
 use Rattle.bp_edges.specs.Counts.{Rose}
 use Rattle.bp_edges.specs.Held.{Files, Fetch}
 use Rattle.bp_edges.specs.Writing.{Appended, AppendedPrefix}
 use Rattle.bp_cli.specs.Words.{Word}
-use Rattle.bp_cli.specs.Tasks.{Task, Asks}
+use Rattle.bp_cli.specs.Tasks.{Task, FiveNames, desk, Asks}
+use Rattle.bp_run.specs.HotelPlan.{HotelNames, named}
 use Rattle.bp_run.specs.Landed.{AreServed}
 use Rattle.bp_run.specs.Statuses.{status_number}
 use Rattle.bp_run.specs.Stages.{ComesAt, HoldsFiles, AreGood}
 use Rattle.bp_run.specs.Fetches.{Fetches, Fails, IsRefusedFor}
 use Rattle.bp_run.specs.Puts.{Puts}
 use Rattle.bp_run.specs.Command.{IsAnswerOf}
-use Rattle.bp_run.specs.Commands.{command_of}
+use Rattle.bp_run.specs.Commands.{command_of, IsPlainAnswer}
 use Rattle.bp_run.specs.Lines.{said, end_status}
 use Rattle.bp_run.specs.declared.status.Status.TheVariants as status
+use Rattle.bp_run.specs.declared.stop.Stop.{Stop}
+use Rattle.bp_run.specs.declared.stop.Stop.TheVariants as stop
+use Rattle.bp_run.specs.declared.outcome.DeskLine.{DeskLine}
 use Rattle.bp_run.specs.declared.end.End.{End}
 use Rattle.bp_run.specs.declared.end.End.TheVariants.{NotPlain, Fault, Refused, Answered}
 
@@ -26,6 +30,27 @@ HasEnd words shelf (Refused file cause) =
     (task : Task) × Asks words task × ComesAt shelf.before.held (IsRefusedFor shelf cause) (command_of task).plan 1 file
 HasEnd words shelf (Answered answer) =
     (task : Task) × Asks words task × IsAnswerOf shelf.before.held (command_of task) answer
+
+-- how a call ends that was stopped at a file
+abbrev pub HasStopped : {E : Type 0} → Stop → Result End E → Type 0
+HasStopped stop.Memory result = IsErr result
+HasStopped (stop.Fault file) result = result ≡ Ok (Fault file)
+HasStopped (stop.Refused file cause) result = result ≡ Ok (Refused file cause)
+
+-- an end that one thread comes to
+abbrev pub IsPlainEnd : End → Type 0
+IsPlainEnd NotPlain = Unit {0}
+IsPlainEnd (Fault file) = Unit {0}
+IsPlainEnd (Refused file cause) = Unit {0}
+IsPlainEnd (Answered answer) = IsPlainAnswer answer
+
+-- a hotel's names, and one behind them
+abbrev pub five_names : HotelNames → Word → FiveNames
+five_names n last = record { hotel = n.hotel; stays = n.stays; forecast = n.forecast; bookings = n.bookings; last = last }
+
+-- the task is that of a desk with these names and this number of workers
+abbrev pub IsDeskOf : Task → DeskLine → Type 0
+IsDeskOf task line = task ≡ desk (five_names (named line.hotel) line.script.now) line.workers
 
 -- the words and the shelf have this status and this text
 pub record Outcome (words : List Word) (shelf : Fetches) (number : ℕ) (text : List ℕ) : Type 0 where

@@ -8,14 +8,17 @@ pub mod TextFiles
 pub mod HotelFiles
 pub mod HotelPlan
 pub mod JournalFiles
+pub mod ScriptFiles
 pub mod Texts
 pub mod Command
 pub mod Check
 pub mod Solve
 pub mod Group
 pub mod Judge
+pub mod Desk
 pub mod Commands
 pub mod Refusals
 pub mod Lines
 pub mod Puts
 pub mod Ends
+pub mod Laws

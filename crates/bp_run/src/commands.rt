@@ -1,9 +1,9 @@
 //! The commands, one file each: its answer, and the status and the text of the answer.
 ghost use Rattle.std.specs.Prelude.{◌≡◌, ◌↔◌, IsTrue, IfOk};
 ghost use Rattle.bp_cli.specs.Asked.{asked};
-ghost use Rattle.bp_run.specs.Landed.{HasLanded};
+ghost use Rattle.bp_run.specs.Landed.{IsPlainTask};
 ghost use Rattle.bp_run.specs.Fetches.{over};
-ghost use Rattle.bp_run.specs.Commands.{command_of, answer_status, answer_said};
+ghost use Rattle.bp_run.specs.Commands.{command_of, answer_status, answer_said, IsPlainAnswer};
 ghost use Rattle.bp_run.specs.Command.{Brings, Concludes};
 ghost use Rattle.bp_run.specs.HotelPlan.{named};
 ghost use Rattle.bp_run.specs.Judge.{ruling_command, replay_plan};
@@ -13,18 +13,20 @@ use crate::stop::Stop;
 use crate::{Answer, Ruling, Status};
 use bp_cert::text_of_certificate;
 use bp_cli::{Name, Task};
-use bp_edges::Shelf;
+use bp_edges::{Shelf, Sink, WriteError};
+use bp_text::write_text;
 use bp_types::Span;
-use std::alloc::{AllocError, Global};
+use std::alloc::Global;
 
 pub mod check;
+pub mod desk;
 pub mod group;
 pub mod judge;
 pub mod solve;
 
-/// Whether the task's command is there.
-pub fn has_landed(task: &Task<'_>) -> bool
-    ensures { IsTrue result ↔ HasLanded (asked task.now) }
+/// Whether the task's command is there, and runs in one thread.
+pub fn is_plain(task: &Task<'_>) -> bool
+    ensures { IsTrue result ↔ IsPlainTask (asked task.now) }
 {
     matches!(
         task,
@@ -72,8 +74,9 @@ fn replayed<S: Shelf>(
 
 /// The answer to a task. Its files are read in their order, up to the first that gives no value.
 pub fn answer<S: Shelf>(alloc: Global, shelf: &mut S, task: &Task<'_>) -> Result<Answer, Stop>
-    requires { HasLanded (asked task.now) }
-    ensures { Concludes (over S.held S.faults S.fetches S.last S.steady shelf.old shelf.new) (command_of (asked task.now)) result }
+    requires { IsPlainTask (asked task.now) }
+    ensures plain { IfOk result IsPlainAnswer }
+    ensures concludes { Concludes (over S.held S.faults S.fetches S.last S.steady shelf.old shelf.new) (command_of (asked task.now)) result }
 {
     match task {
         Task::Check {
@@ -125,17 +128,21 @@ pub fn status_of(answer: &Answer) -> Status
         Answer::Solved(_) => Status::Done,
         Answer::Grouped(group) => group::status_of(group),
         Answer::Judged(ruling) => judge::status_of(*ruling),
+        Answer::Ran(ran) => desk::status_of(ran),
     }
 }
 
-/// The text of an answer.
-pub fn text_of(alloc: Global, answer: &Answer) -> Result<Vec<u8>, AllocError>
-    ensures { IfOk result (λ text. text.items ≡ answer_said answer.now) }
+/// Writes the text of an answer. That of a run is never built whole.
+pub fn write<K: Sink>(alloc: Global, answer: &Answer, out: &mut K) -> Result<(), WriteError>
+    ensures { PutsText (onto K.written K.faults K.steady out.old out.new) (answer_said answer.now) result }
 {
     match answer {
-        Answer::Checked(verdict) => check::text_of(alloc, *verdict),
-        Answer::Solved(certificate) => text_of_certificate(alloc, certificate),
-        Answer::Grouped(group) => group::text_of(alloc, group),
-        Answer::Judged(ruling) => judge::text_of(alloc, *ruling),
+        Answer::Checked(verdict) => write_text(alloc, &check::text_of(alloc, *verdict)?, out),
+        Answer::Solved(certificate) => {
+            write_text(alloc, &text_of_certificate(alloc, certificate)?, out)
+        }
+        Answer::Grouped(group) => write_text(alloc, &group::text_of(alloc, group)?, out),
+        Answer::Judged(ruling) => write_text(alloc, &judge::text_of(alloc, *ruling)?, out),
+        Answer::Ran(ran) => bp_journal::write(alloc, &ran.book, out),
     }
 }

@@ -1,6 +1,7 @@
 //! How a call of the program ends.
 use crate::{GroupAnswer, Ruling};
 use bp_cert::Verdict;
+use bp_desk_run::Ran;
 use bp_hotelfile::HotelRefusal;
 use bp_stayfile::TableRefusal;
 use bp_text::TextError;
@@ -27,7 +28,7 @@ pub enum Cause {
 }
 
 /// What a command answers, where its files are good.
-#[derive(Debug, Drop)]
+#[derive(Drop)]
 pub enum Answer {
     /// The certificate was checked.
     Checked(Verdict),
@@ -37,10 +38,12 @@ pub enum Answer {
     Grouped(GroupAnswer),
     /// A journal was judged.
     Judged(Ruling),
+    /// A desk ran, and was closed.
+    Ran(Ran),
 }
 
 /// How a call ends where there is memory and the sink takes the text. Files count from 1, in the order of the words.
-#[derive(Debug, Drop)]
+#[derive(Drop)]
 pub enum End {
     /// The words are no plain line, or ask for a command that is not there yet.
     NotPlain,

@@ -20,6 +20,7 @@ pub mod forecast;
 pub mod hotel;
 pub mod journal;
 pub mod problem;
+pub mod script;
 pub mod stays;
 
 /// A kind of file, with the values of earlier files that its reader stands on.

@@ -5,6 +5,7 @@ mod commands;
 mod end;
 mod files;
 mod house;
+pub mod law;
 mod lines;
 mod outcome;
 mod print;

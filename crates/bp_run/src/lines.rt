@@ -2,7 +2,6 @@
 ghost use Rattle.std.specs.Prelude.{◌≡◌, IfOk, string_bytes};
 ghost use Rattle.bp_run.specs.Lines.{said, end_status, usage};
 
-use crate::refusals::refused_line;
 use crate::{End, Status, commands};
 use std::alloc::{AllocError, Global};
 
@@ -20,28 +19,18 @@ bidprice sheet PROBLEM
 bidprice portfolio LIST [--workers W]
 ";
 
-fn usage_text(alloc: Global) -> Result<String, AllocError>
+/// The usage text.
+pub fn usage_text(alloc: Global) -> Result<String, AllocError>
     ensures { IfOk result (λ text. string_bytes text ≡ usage) }
 {
     String::from_str(alloc, USAGE)
 }
 
-fn fault_line(alloc: Global, file: u64) -> Result<String, AllocError>
+/// The line of a file at which the shelf failed.
+pub fn fault_line(alloc: Global, file: u64) -> Result<String, AllocError>
     ensures { IfOk result (λ text. string_bytes text ≡ said (End.Fault file)) }
 {
     format!(in alloc; "fault {file}\n")
-}
-
-/// The text of an end.
-pub fn text_of(alloc: Global, end: &End) -> Result<Vec<u8>, AllocError>
-    ensures { IfOk result (λ text. text.items ≡ said end.now) }
-{
-    match end {
-        End::NotPlain => Ok(usage_text(alloc)?.into_bytes()),
-        End::Fault { file } => Ok(fault_line(alloc, *file)?.into_bytes()),
-        End::Refused { file, cause } => Ok(refused_line(alloc, *file, *cause)?.into_bytes()),
-        End::Answered(answer) => commands::text_of(alloc, answer),
-    }
 }
 
 /// The status of an end.

@@ -1,20 +1,97 @@
 //! How the words end over a shelf.
-ghost use Rattle.std.specs.Prelude.{◌≢◌, IfOk};
+ghost use Rattle.std.specs.Prelude.{◌≡◌, ◌≢◌, IfOk, MatchOption};
 ghost use Rattle.bp_cli.specs.Words.{texts};
+ghost use Rattle.bp_cli.specs.Asked.{asked};
 ghost use Rattle.bp_run.specs.Fetches.{over};
+ghost use Rattle.bp_run.specs.Landed.{MayStartThreads, IsDesk};
 ghost use Rattle.bp_run.specs.Lines.{end_status};
-ghost use Rattle.bp_run.specs.Ends.{HasEnd, HoldsAll};
+ghost use Rattle.bp_run.specs.Ends.{HasEnd, HoldsAll, HasStopped, IsPlainEnd, IsDeskOf};
 ghost use Rattle.bp_run.specs.declared.status.Status.TheVariants.{Fault};
 
+use crate::commands::desk;
+use crate::house::HotelFiles;
 use crate::stop::Stop;
-use crate::{End, commands};
-use bp_cli::{WordsError, law, parse};
-use bp_edges::Shelf;
+use crate::{Answer, End, commands};
+use bp_cli::{Task, WordsError, law, parse};
+use bp_edges::{Gate, Shelf};
 use bp_types::Memory;
 use std::alloc::Global;
+use std::sync::Wait;
+use std::thread::Threads;
 
-/// How the words end over the shelf, before anything is written.
+/// The names and the number of workers of a desk's line.
+#[derive(Clone, Copy, Debug)]
+pub struct DeskLine<'a> {
+    pub hotel: HotelFiles<'a>,
+    pub script: &'a str,
+    pub workers: u32,
+}
+
+// How a call ends that was stopped at a file.
+fn stopped(stop: Stop) -> Result<End, Memory>
+    ensures { HasStopped stop result }
+{
+    match stop {
+        Stop::Memory => Err(Memory),
+        Stop::Fault { file } => Ok(End::Fault { file }),
+        Stop::Refused { file, cause } => Ok(End::Refused { file, cause }),
+    }
+}
+
+/// How the words of a line for one thread end over the shelf, before anything is written.
+#[tactic(auto, using(crate::proofs::EndLemmas::not_plain_task, crate::proofs::EndLemmas::stopped_has, crate::proofs::EndLemmas::stopped_unfailing, crate::proofs::EndLemmas::stopped_plain, crate::proofs::EndLemmas::answer_is_no_fault))]
 pub fn end_of<S: Shelf>(alloc: Global, words: &[String], shelf: &mut S) -> Result<End, Memory>
+    requires { MayStartThreads (texts words.now) → ⊥ }
+    ensures end { IfOk result (HasEnd (texts words.now) (over S.held S.faults S.fetches S.last S.steady shelf.old shelf.new)) }
+    ensures unfailing { S.steady shelf.old → HoldsAll (texts words.now) (S.held shelf.old) → IfOk result (λ end. end_status end ≢ Fault) }
+    ensures plain { IfOk result IsPlainEnd }
+{
+    law::tasks_are_unique();
+    let task = match parse(alloc, words) {
+        Ok(task) => task,
+        Err(WordsError::Usage) => return Ok(End::NotPlain),
+        Err(WordsError::Memory) => return Err(Memory),
+    };
+    if !commands::is_plain(&task) {
+        return Ok(End::NotPlain);
+    }
+    match commands::answer(alloc, shelf, &task) {
+        Ok(answer) => Ok(End::Answered(answer)),
+        Err(stop) => stopped(stop),
+    }
+}
+
+// What a desk's line names, where the task is that of one.
+fn desk_of<'a>(task: &Task<'a>) -> Option<DeskLine<'a>>
+    ensures { MatchOption result (IsDesk (asked task.now) → ⊥) (IsDeskOf (asked task.now)) }
+{
+    match task {
+        Task::Desk {
+            hotel,
+            stays,
+            forecast,
+            bookings,
+            script,
+            workers,
+        } => Some(DeskLine {
+            hotel: commands::hotel_files(hotel, stays, forecast, bookings),
+            script: script.text(),
+            workers: *workers,
+        }),
+        _ => None,
+    }
+}
+
+/// How the words of a line that may start threads end over the shelf, before anything is written.
+#[tactic(auto, using(crate::proofs::EndLemmas::not_desk_task, crate::proofs::EndLemmas::few_workers, crate::proofs::EndLemmas::ran_has, crate::proofs::EndLemmas::ran_stopped, crate::proofs::EndLemmas::stopped_has, crate::proofs::EndLemmas::stopped_unfailing, crate::proofs::EndLemmas::answer_is_no_fault))]
+pub fn end_with_threads<R: Wait + Threads + Sync, S: Shelf, G: Gate>(
+    rt: &R,
+    alloc: Global,
+    words: &[String],
+    shelf: &mut S,
+    gate: &G,
+) -> Result<End, Memory>
+    requires { MayStartThreads (texts words.now) }
     ensures end { IfOk result (HasEnd (texts words.now) (over S.held S.faults S.fetches S.last S.steady shelf.old shelf.new)) }
     ensures unfailing { S.steady shelf.old → HoldsAll (texts words.now) (S.held shelf.old) → IfOk result (λ end. end_status end ≢ Fault) }
 {
@@ -24,13 +101,19 @@ pub fn end_of<S: Shelf>(alloc: Global, words: &[String], shelf: &mut S) -> Resul
         Err(WordsError::Usage) => return Ok(End::NotPlain),
         Err(WordsError::Memory) => return Err(Memory),
     };
-    if !commands::has_landed(&task) {
+    let Some(line) = desk_of(&task) else {
         return Ok(End::NotPlain);
-    }
-    match commands::answer(alloc, shelf, &task) {
-        Ok(answer) => Ok(End::Answered(answer)),
-        Err(Stop::Memory) => Err(Memory),
-        Err(Stop::Fault { file }) => Ok(End::Fault { file }),
-        Err(Stop::Refused { file, cause }) => Ok(End::Refused { file, cause }),
+    };
+    match desk::answer(
+        rt,
+        alloc,
+        shelf,
+        &line.hotel,
+        line.script,
+        line.workers,
+        gate,
+    ) {
+        Ok(ran) => Ok(End::Answered(Answer::Ran(ran))),
+        Err(stop) => stopped(stop),
     }
 }

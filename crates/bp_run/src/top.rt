@@ -6,10 +6,10 @@ ghost use Rattle.bp_run.specs.Fetches.{over};
 ghost use Rattle.bp_run.specs.Puts.{onto};
 ghost use Rattle.bp_run.specs.Ends.{Serves};
 
-use crate::outcome::end_of;
+use crate::Status;
+use crate::outcome::{end_of, end_with_threads};
 use crate::print::finish;
 use crate::threads::may_start_threads;
-use crate::{End, Status};
 use bp_cert::law;
 use bp_edges::{Gate, Shelf, Sink};
 use bp_types::Memory;
@@ -44,19 +44,25 @@ pub fn run_plain<S: Shelf, K: Sink>(
 ///
 /// Every text goes to the sink, the usage text and refusals too. The gate is passed by the actors of a desk.
 pub fn run<R: Wait + Threads + Sync, S: Shelf, K: Sink, G: Gate>(
-    _rt: &R,
+    rt: &R,
     alloc: Global,
     words: &[String],
     shelf: &mut S,
     out: &mut K,
-    _gate: &G,
+    gate: &G,
 ) -> u8
-    ensures known { result ≤ 6 }
+    ensures known { result ≤ 7 }
     ensures serves { Serves (texts words.now) (over S.held S.faults S.fetches S.last S.steady shelf.old shelf.new)
         (onto K.written K.faults K.steady out.old out.new) result }
 {
-    if may_start_threads(words) {
-        return finish(alloc, &End::NotPlain, out).number();
+    law::problems_have_one_spelling();
+    law::certificates_have_one_spelling();
+    bp_journal::law::journals_have_one_spelling();
+    if !may_start_threads(words) {
+        return run_plain(alloc, words, shelf, out);
     }
-    run_plain(alloc, words, shelf, out)
+    match end_with_threads(rt, alloc, words, shelf, gate) {
+        Ok(end) => finish(alloc, &end, out).number(),
+        Err(Memory) => Status::NoMemory.number(),
+    }
 }

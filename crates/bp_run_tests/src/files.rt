@@ -68,6 +68,56 @@ P2,1
 P3,5
 ";
 
+/// That hotel, whose bookings wait for a vector after two changes.
+const STALE_AFTER_TWO: &str = "name = \"A\"
+first_night = \"2025-07-01\"
+nights = 3
+rooms = 2
+stale_after = 2
+[[night]]
+date = \"2025-07-02\"
+rooms = 1
+";
+
+/// What one session makes of the script `three-calls`: before its last call it publishes, and so does the opener at the
+/// end.
+pub(crate) const THREE_CALLS: &str = "journal 2
+0 0 publish 0 vector 0
+value 250
+sell 0 1 1 1
+prices 0 100 40
+1 1 enrol done
+2 1 book 0 accepted 0 100
+3 1 book 1 noroom 0 140 1
+4 1 publish 4 vector 1
+value 140
+sell 0 0 1 2
+prices 60 40 40
+5 1 book 3 accepted 1 40
+6 1 leave done
+7 0 publish 7 vector 2
+value 100
+sell 0 0 1 1
+prices 60 40 40
+end
+";
+
+/// What is made of it where the house allows one entry of a command.
+pub(crate) const ONE_CALL: &str = "journal 2
+0 0 publish 0 vector 0
+value 250
+sell 0 1 1 1
+prices 0 100 40
+1 1 enrol done
+2 1 book 0 accepted 0 100
+3 1 leave done
+4 0 publish 4 vector 1
+value 140
+sell 0 0 1 2
+prices 60 40 40
+end
+";
+
 /// Each file's name and text. Those of one letter are the problem, its certificate and its journal, and the files of a
 /// hotel.
 pub(crate) fn files() -> &'static [(&'static str, &'static str)] {
@@ -90,6 +140,21 @@ pub(crate) fn files() -> &'static [(&'static str, &'static str)] {
             "code,arrival,nights,rate\nP0,2025-07-03,2,100\n",
         ),
         ("no-code", "code,count\nP4,3\n"),
+        // A script, what is made of it, and scripts that are refused.
+        ("H2", STALE_AFTER_TWO),
+        (
+            "three-calls",
+            "session,verb,item,nights,rooms,amount\n1,book,P0,,,\n1,book,P1,,,\n1,book,P3,,,\n",
+        ),
+        ("T", THREE_CALLS),
+        (
+            "free-rate",
+            "session,verb,item,nights,rooms,amount\n1,reprice,P0,,,0\n",
+        ),
+        (
+            "H1",
+            "name = \"A\"\nfirst_night = \"2025-07-01\"\nnights = 3\nrooms = 2\nstale_after = 2\nentries = 1\n[[night]]\ndate = \"2025-07-02\"\nrooms = 1\n",
+        ),
         // Journals.
         ("resized", RESIZED),
         ("no-vector", "journal 1\nend\n"),

@@ -1,6 +1,6 @@
 //! Lines of words, and what each gives over the shared files.
 
-use crate::files::CERTIFICATE;
+use crate::files::{CERTIFICATE, ONE_CALL, THREE_CALLS};
 
 const USAGE: &str = "usage:
 bidprice check PROBLEM CERTIFICATE
@@ -78,7 +78,13 @@ pub(crate) fn served() -> &'static [Line] {
         ("replay H S F B J", 0, "legal 4\n"),
         ("replay H S F one-sold resized", 0, "legal 4\n"),
         ("replay H S F one-sold J", 1, "illegal 0 certificate\n"),
+        // A desk's journal is legal on the files that it ran on.
+        ("desk H2 S F B three-calls --workers 0", 0, THREE_CALLS),
+        ("replay H2 S F B T", 0, "legal 8\n"),
+        ("desk H1 S F B three-calls --workers 0", 7, ONE_CALL),
         // The first file that is refused has its line.
+        ("desk H2 S F B free-rate", 3, "refused 5 limit 2\n"),
+        ("desk H2 S F B K", 4, "fault 5\n"),
         ("judge A zero-in-journal", 3, "refused 2 badline 7\n"),
         ("judge later no-vector", 3, "refused 1 badline 1\n"),
         ("replay no-toml S F B J", 3, "refused 1 nottoml\n"),
@@ -127,7 +133,7 @@ pub(crate) fn not_served() -> &'static [&'static str] {
         "group A 1 3 0",
         "group A 1 3 10001",
         "desk H S F B X --workers=2",
-        "desk H S F B X --workers 2",
+        "desk H S F B",
         "scenarios A",
         "sheet A",
         "portfolio",
@@ -148,6 +154,7 @@ pub(crate) fn failing() -> &'static [(&'static str, u64, u64, u8, &'static str)]
         ("replay H S F B J", 3, 0, 4, "fault 3\n"),
         ("replay H S F B J", 5, 0, 4, "fault 5\n"),
         ("replay H S F B J", 0, 1, 5, ""),
+        ("desk H2 S F B three-calls --workers 0", 0, 1, 5, ""),
         ("check A C", 0, 1, 5, ""),
         ("check A misvalued", 0, 1, 5, ""),
         ("check A", 0, 1, 5, ""),

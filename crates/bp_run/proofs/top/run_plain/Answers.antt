@@ -1,4 +1,5 @@
-use Rattle.bp_run.proofs.EndLemmas.{serves}
+use Rattle.std.proofs.Common.{arith}
+use Rattle.bp_run.proofs.EndLemmas.{serves, plain_known}
 use Rattle.bp_run.proofs.CompleteLemmas.{complete, holds_all}
 use Rattle.bp_run.proofs.SoundCommands.{AreTextsReadOneWay, sound}
 use Rattle.bp_run.proofs.top.run_plain.Goals as goal
@@ -10,3 +11,6 @@ returns-in-Ok-clause-serves g c =
     serves _ _ _ c.in-Ok.end c.in-Ok.ensures.end c.in-Ok.ensures.unfailing
     (λ steady all. complete each _ _ c.in-Ok.end all c.in-Ok.ensures.end (c.in-Ok.ensures.unfailing steady (holds_all each _ _ all)))
     c.finish.result _ c.number.ensures c.finish.ensures
+
+pub returns-in-Ok-clause-known : goal.returns-in-Ok-clause-known
+returns-in-Ok-clause-known g c = let number = c.number.ensures in let small = plain_known _ c.in-Ok.end c.finish.result c.in-Ok.ensures.plain c.finish.ensures in omega arith

@@ -1,0 +1,54 @@
+//! `desk HOTEL STAYS FORECAST BOOKINGS SCRIPT [--workers W]`: the sessions of a script on one desk.
+ghost use Rattle.std.specs.Prelude.{◌≡◌, ◌≤◌};
+ghost use Rattle.bp_types.specs.declared.limits.TheConstants.{MOST_WORKERS};
+ghost use Rattle.bp_run.specs.Fetches.{over};
+ghost use Rattle.bp_run.specs.Command.{Brings};
+ghost use Rattle.bp_run.specs.HotelPlan.{named};
+ghost use Rattle.bp_run.specs.Desk.{desk_command, run_status};
+
+use crate::Status;
+use crate::files::load;
+use crate::files::script::ScriptFile;
+use crate::house::{HotelFiles, load_house};
+use crate::stop::Stop;
+use bp_desk_run::{Ran, run_desk};
+use bp_edges::{Gate, Shelf};
+use bp_stayfile::law;
+use std::alloc::Global;
+use std::sync::Wait;
+use std::thread::Threads;
+
+/// Reads a hotel's four files and a script, and runs its sessions beside so many optimisers.
+pub fn answer<R: Wait + Threads + Sync, S: Shelf, G: Gate>(
+    rt: &R,
+    alloc: Global,
+    shelf: &mut S,
+    hotel: &HotelFiles<'_>,
+    script: &str,
+    workers: u32,
+    gate: &G,
+) -> Result<Ran, Stop>
+    requires { workers ≤ MOST_WORKERS }
+    ensures { Brings (over S.held S.faults S.fetches S.last S.steady shelf.old shelf.new) (desk_command (named hotel.now) script.now workers) result }
+{
+    law::files_give_stays();
+    law::forecasts_keep_limits();
+    let open = load_house(alloc, shelf, 1, hotel)?;
+    let file = ScriptFile {
+        hotel: &open.hotel,
+        stays: &open.stays,
+    };
+    let scripts = load(alloc, shelf, &file, 5, script)?;
+    Ok(run_desk(rt, alloc, open.house, scripts.into_vec(), workers, gate)?)
+}
+
+/// The status of a run: done where it is whole.
+pub fn status_of(ran: &Ran) -> Status
+    ensures { result ≡ run_status ran.now }
+{
+    if ran.whole {
+        Status::Done
+    } else {
+        Status::Unfinished
+    }
+}

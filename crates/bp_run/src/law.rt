@@ -1,0 +1,16 @@
+//! Laws over what commands answer, as the contracts of functions that do nothing.
+
+ghost use Rattle.bp_run.specs.Laws.{RunsAreLegal};
+
+/// The journal that a desk wrote is legal by `replay` of the same four files.
+pub fn runs_are_legal()
+    ensures { RunsAreLegal }
+{
+    bp_hotelfile::law::files_give_seasons();
+    bp_stayfile::law::files_give_stays();
+    bp_stayfile::law::forecasts_keep_limits();
+    bp_stayfile::law::bookings_fit();
+    bp_stayfile::law::houses_are_in_limits();
+    bp_journal::law::written_is_read();
+    bp_judge::law::not_both();
+}

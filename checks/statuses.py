@@ -67,6 +67,46 @@ P3,2025-07-03,1,40
 
 FORECAST = b"code,count\nP0,3\nP1,1\nP2,1\nP3,5\n"
 
+# That hotel, whose bookings wait for a vector after two changes.
+STALE_HOTEL = HOTEL.replace(b"[[night]]", b"stale_after = 2\n[[night]]")
+
+SCRIPT = b"session,verb,item,nights,rooms,amount\n1,book,P0,,,\n1,book,P1,,,\n1,book,P3,,,\n"
+
+# What the one session of that script makes there, where no worker stands beside it.
+RUN = b"""journal 2
+0 0 publish 0 vector 0
+value 250
+sell 0 1 1 1
+prices 0 100 40
+1 1 enrol done
+2 1 book 0 accepted 0 100
+3 1 book 1 noroom 0 140 1
+4 1 publish 4 vector 1
+value 140
+sell 0 0 1 2
+prices 60 40 40
+5 1 book 3 accepted 1 40
+6 1 leave done
+7 0 publish 7 vector 2
+value 100
+sell 0 0 1 1
+prices 60 40 40
+end
+"""
+
+# And where the house allows one vector.
+CUT_RUN = b"""journal 2
+0 0 publish 0 vector 0
+value 250
+sell 0 1 1 1
+prices 0 100 40
+1 1 enrol done
+2 1 book 0 accepted 0 100
+3 1 book 1 noroom 0 140 1
+4 1 leave done
+end
+"""
+
 FILES = {
     "problem": PROBLEM,
     "certificate": CERTIFICATE,
@@ -90,6 +130,11 @@ FILES = {
     "stays": STAYS,
     "forecast": FORECAST,
     "bookings": b"code,count\n",
+    "stale-hotel": STALE_HOTEL,
+    "one-vector": STALE_HOTEL.replace(b"stale_after", b"publications = 1\nstale_after"),
+    "script": SCRIPT,
+    "session-33": SCRIPT.replace(b"1,book,P0", b"33,book,P0"),
+    "run": RUN,
     "overbooked": b"code,count\nP0,1\nP1,1\n",
     "long": b"p" * (2**24 + 1),
     "greatest": b"p" * 2**24,
@@ -98,6 +143,10 @@ FILES = {
 BOTH = ["check", "problem", "certificate"]
 
 REPLAY = ["replay", "hotel", "stays", "forecast", "bookings"]
+
+STALE = ["stale-hotel", "stays", "forecast", "bookings"]
+
+ONE_VECTOR = ["one-vector", "stays", "forecast", "bookings"]
 
 # A line of words, its status, and the whole text that it writes.
 LINES = [
@@ -113,12 +162,20 @@ LINES = [
     (["judge", "problem", "early-leave"], 1, b"illegal 3 caller\n"),
     ([*REPLAY, "journal"], 0, b"legal 4\n"),
     ([*REPLAY, "other-reply"], 1, b"illegal 2 reply\n"),
+    (["desk", *STALE, "script", "--workers", "0"], 0, RUN),
+    (["replay", *STALE, "run"], 0, b"legal 8\n"),
+    (["desk", *ONE_VECTOR, "script", "--workers", "0"], 7, CUT_RUN),
     ([], 2, USAGE),
     (["help"], 2, USAGE),
     (["check", "problem"], 2, USAGE),
     (["check", "problem", "-certificate"], 2, USAGE),
     (["solve"], 2, USAGE),
     (["group", "problem", "0", "2", "0"], 2, USAGE),
+    (["desk", *STALE], 2, USAGE),
+    (["desk", *STALE, "script", "--workers=2"], 2, USAGE),
+    (["desk", *STALE, "session-33"], 3, b"refused 5 session 2\n"),
+    (["desk", "hotel", "stays", "forecast", "overbooked", "script"], 3, b"refused 4 overbooked 1\n"),
+    (["desk", *STALE, "absent"], 4, b"fault 5\n"),
     (["check", "zero-in-front", "certificate"], 3, b"refused 1 badline 2\n"),
     (["check", "problem", "cut-certificate"], 3, b"refused 2 tooshort\n"),
     (["solve", "many-nights"], 3, b"refused 1 limit 2\n"),
@@ -150,7 +207,7 @@ CHOSEN = [
 ]
 
 # One line of words for each command, and one that no command has: each writes something.
-WRITING = [BOTH, ["solve", "problem"], ["group", "problem", "0", "2", "1"], ["judge", "problem", "journal"], [*REPLAY, "journal"], ["help"]]
+WRITING = [BOTH, ["solve", "problem"], ["group", "problem", "0", "2", "1"], ["judge", "problem", "journal"], [*REPLAY, "journal"], ["desk", *STALE, "script"], ["help"]]
 
 
 def run(program, folder, words, **how):

@@ -264,20 +264,20 @@ not_desk_task unique words task may asks not_desk (t, asks_t, landed) =
 -- a command that was stopped at a file, and the end of its call
 module _ {E : Type 0} (words : List Word) (shelf : Fetches) (task : Task) (asks : Asks words task) where
   pub stopped_has : (stop : Stop) (result : Result End E) → IsStopped shelf (command_of task) stop → HasStopped stop result → IfOk result (HasEnd words shelf)
-  stopped_has stops.Memory (Ok end) is e = absurd e
+  stopped_has stops.Memory (Ok end) is e = absurd (let no : false ≡ true = e in cc)
   stopped_has stops.Memory (Err x) is e = tt
   stopped_has (stops.Fault k) result is e = rw e (task, asks, is.stops)
   stopped_has (stops.Refused k cause) result is e = rw e (task, asks, is.stops)
 
   pub stopped_unfailing : (stop : Stop) (result : Result End E) → IsStopped shelf (command_of task) stop → HasStopped stop result
       → shelf.before.steady → HoldsAll words shelf.before.held → IfOk result (λ end. end_status end ≢ status.Fault)
-  stopped_unfailing stops.Memory (Ok end) is e steady holds = absurd e
+  stopped_unfailing stops.Memory (Ok end) is e steady holds = absurd (let no : false ≡ true = e in cc)
   stopped_unfailing stops.Memory (Err x) is e steady holds = tt
   stopped_unfailing (stops.Fault k) result is e steady holds = absurd (is.unfailing steady holds.files holds.told (holds.each task asks) tt)
   stopped_unfailing (stops.Refused k cause) result is e steady holds = rw e (λ same. cc)
 
   pub stopped_plain : (stop : Stop) (result : Result End E) → HasStopped stop result → IfOk result IsPlainEnd
-  stopped_plain stops.Memory (Ok end) e = absurd e
+  stopped_plain stops.Memory (Ok end) e = absurd (let no : false ≡ true = e in cc)
   stopped_plain stops.Memory (Err x) e = tt
   stopped_plain (stops.Fault k) result e = rw e tt
   stopped_plain (stops.Refused k cause) result e = rw e tt

@@ -17,10 +17,11 @@ use Rattle.bp_desk_run.specs.declared.callers.Ran.{Ran}
 use Rattle.bp_cli.specs.Words.{Word}
 use Rattle.bp_run.specs.Stages.{Stage, Plan, done, ask, followed_by, IsReadAs, Gives, AreReadOneWay}
 use Rattle.bp_run.specs.HotelPlan.{HotelNames, hotel_plan}
+use Rattle.bp_run.specs.HotelFiles.{hotel_file, stays_of_hotel, forecast_of_stays, bookings_of_hotel}
 use Rattle.bp_run.specs.JournalFiles.{journal_file}
 use Rattle.bp_run.specs.Command.{IsAnswered}
-use Rattle.bp_run.specs.Judge.{Charge, IsRuling, ruling_command, replay_plan}
-use Rattle.bp_run.specs.Desk.{Staged, desk_command, run_said}
+use Rattle.bp_run.specs.Judge.{Charge, IsRuling, ruling_command, journal_plan, replay_plan}
+use Rattle.bp_run.specs.Desk.{Staged, script_plan, desk_command, run_said}
 use Rattle.bp_run.specs.Laws.{HoldOneHotel, RunsAreLegal}
 use Rattle.bp_run.specs.declared.house.OpenHotel.{OpenHotel}
 use Rattle.bp_run.specs.declared.commands.judge.Ruling.{Ruling}
@@ -80,26 +81,27 @@ read_here before later s v alike read = record {
 -- so the four files of a hotel give the same
 hotel_here : (before later : Files) (names : HotelNames) (first next : ℕ) (inn : OpenHotel) → HoldOneHotel names before later
     → Gives (Some later) (hotel_plan names) first next inn → Gives (Some before) (hotel_plan names) first next inn
-hotel_here before later names first next inn alike (season, hotel_read, listed, listed_read, stays, stays_read, sold, sold_read, is, same) = (
+hotel_here before later names first next inn alike (season, hotel_read, (listed, listed_read, (stays, stays_read, (sold, sold_read, (is, same))))) = (
   season,
-  read_here before later _ season alike.hotel hotel_read,
-  listed,
-  read_here before later _ listed alike.stays listed_read,
-  stays,
-  read_here before later _ stays alike.forecast stays_read,
-  sold,
-  read_here before later _ sold alike.bookings sold_read,
-  is,
-  same,
+  read_here before later (hotel_file names.hotel) season alike.hotel hotel_read,
+  (
+    listed,
+    read_here before later (stays_of_hotel season names.stays) listed alike.stays listed_read,
+    (
+      stays,
+      read_here before later (forecast_of_stays listed names.forecast) stays alike.forecast stays_read,
+      (sold, read_here before later (bookings_of_hotel season stays names.bookings) sold alike.bookings sold_read, (is, same)),
+    ),
+  ),
 )
 
 -- their house keeps to every limit
 hotel_is_house : LawsBelow → (held : Option Files) (names : HotelNames) (first next : ℕ) (inn : OpenHotel) → Gives held (hotel_plan names) first next inn → IsHouse inn.house
-hotel_is_house laws held names first next inn (season, hotel_read, listed, listed_read, stays, stays_read, sold, sold_read, is, same) =
+hotel_is_house laws held names first next inn (season, hotel_read, (listed, listed_read, (stays, stays_read, (sold, sold_read, (is, same))))) =
     let is_season = laws.seasons hotel_read.bytes season hotel_read.accepted in
     let first_list = laws.stays season listed_read.bytes listed listed_read.accepted in
     let list = laws.forecasts listed stays stays_read.bytes first_list.0 stays_read.accepted in
-    let nights : stays.nights ≡ length season.rooms = list.1.0 ∙ first_list.1 in
+    let nights : stays.nights ≡ length season.rooms = list.1 ∙ first_list.1 in
     let are = subst (λ n. AreStays n stays.stays) nights list.0.stays in
     let fits = laws.bookings season.rooms stays sold_read.bytes sold sold_read.accepted in
     let P : OpenHotel → Type 0 = λ o. IsHouse o.house in
@@ -112,11 +114,11 @@ legal_ruling laws h H (Illegal place rule) legal right = absurd (laws.not_both h
 
 pub runs_are_legal : LawsBelow → RunsAreLegal
 runs_are_legal laws before later names script journal workers ran ruling alike holds desk replay =
-    let run = gives_apart (Some before) (hotel_plan names) _ 1 desk.next desk.given desk.gives in
-    let judged = gives_apart (Some later) (hotel_plan names) _ 1 replay.next replay.given replay.gives in
+    let run = gives_apart (Some before) (hotel_plan names) (λ (inn : OpenHotel). script_plan script inn) 1 desk.next desk.given desk.gives in
+    let judged = gives_apart (Some later) (hotel_plan names) (λ (inn : OpenHotel). journal_plan journal inn.house) 1 replay.next replay.given replay.gives in
     let inn : judged.a ≡ run.a = gives_same before (hotel_plan names) 1 judged.middle run.middle judged.a run.a (hotel_plan_one_way names) (hotel_here before later names 1 judged.middle judged.a alike judged.early) run.early in
-    let (scripts, scripts_read, run_is, run_next) = run.late in
-    let (H, journal_read, judged_is, judged_next) = judged.late in
+    let (scripts, scripts_read, (run_is, run_next)) = run.late in
+    let (H, journal_read, (judged_is, judged_next)) = judged.late in
     let opened : run.a.house ≡ desk.given.house = ap (λ (g : Staged). g.house) run_is in
     let house : judged.a.house ≡ desk.given.house = ap (λ (o : OpenHotel). o.house) inn ∙ opened in
     let is_house : IsHouse desk.given.house = subst IsHouse opened (hotel_is_house laws (Some before) names 1 run.middle run.a run.early) in

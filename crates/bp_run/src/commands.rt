@@ -2,6 +2,7 @@
 ghost use Rattle.std.specs.Prelude.{◌≡◌, ◌↔◌, IsTrue, IfOk};
 ghost use Rattle.bp_cli.specs.Asked.{asked};
 ghost use Rattle.bp_run.specs.Landed.{IsPlainTask};
+ghost use Rattle.bp_run.specs.Puts.{onto, PutsText};
 ghost use Rattle.bp_run.specs.Fetches.{over};
 ghost use Rattle.bp_run.specs.Commands.{command_of, answer_status, answer_said, IsPlainAnswer};
 ghost use Rattle.bp_run.specs.Command.{Brings, Concludes};

@@ -2,27 +2,27 @@ use Rattle.std.proofs.Common.{refl, sym}
 use Rattle.std.proofs.lemmas.Result.{err_from_is_err_and}
 use Rattle.bp_run.proofs.commands.answer.Goals as goal
 
-pub returns-in_ok-answer-in-Check : goal.returns-in_ok-answer-in-Check
-returns-in_ok-answer-in-Check g c =
+pub returns-in_ok-answer-in-Check-clause-concludes : goal.returns-in_ok-answer-in-Check-clause-concludes
+returns-in_ok-answer-in-Check-clause-concludes g c =
     rw (c.in-Check.is, sym c.text.ensures, sym c.text-in-Check.ensures) (record { own = c.in_ok-answer-in-Check.field-0; is = refl; answered = c.in_ok-answer-in-Check.ensures })
 
-pub returns-in_ok-answer-in-Solve : goal.returns-in_ok-answer-in-Solve
-returns-in_ok-answer-in-Solve g c =
+pub returns-in_ok-answer-in-Solve-clause-concludes : goal.returns-in_ok-answer-in-Solve-clause-concludes
+returns-in_ok-answer-in-Solve-clause-concludes g c =
     rw (c.in-Solve.is, sym c.text-in-Solve.ensures) (record { own = c.in_ok-answer-in-Solve.field-0; is = refl; answered = c.in_ok-answer-in-Solve.ensures })
 
-pub returns-in_ok-answer-in-Group : goal.returns-in_ok-answer-in-Group
-returns-in_ok-answer-in-Group g c =
+pub returns-in_ok-answer-in-Group-clause-concludes : goal.returns-in_ok-answer-in-Group-clause-concludes
+returns-in_ok-answer-in-Group-clause-concludes g c =
     rw (c.in-Group.is, sym c.text-in-Group.ensures) (record { own = c.in_ok-answer-in-Group.field-0; is = refl; answered = c.in_ok-answer-in-Group.ensures })
 
-pub returns-in_ok-answer-in-Judge : goal.returns-in_ok-answer-in-Judge
-returns-in_ok-answer-in-Judge g c =
+pub returns-in_ok-answer-in-Judge-clause-concludes : goal.returns-in_ok-answer-in-Judge-clause-concludes
+returns-in_ok-answer-in-Judge-clause-concludes g c =
     rw (c.in-Judge.is, sym c.text-in-Judge.ensures, sym c.text-in-Judge-2.ensures) (record { own = c.in_ok-answer-in-Judge.field-0; is = refl; answered = c.in_ok-answer-in-Judge.ensures })
 
-pub returns-in_ok-replayed-in-Replay : goal.returns-in_ok-replayed-in-Replay
-returns-in_ok-replayed-in-Replay g c =
+pub returns-in_ok-replayed-in-Replay-clause-concludes : goal.returns-in_ok-replayed-in-Replay-clause-concludes
+returns-in_ok-replayed-in-Replay-clause-concludes g c =
     rw c.in-Replay.is (record { own = c.in_ok-replayed-in-Replay.field-0; is = refl; answered = c.in_ok-replayed-in-Replay.ensures })
 
-pub returns-in_err-replayed-in-Replay : goal.returns-in_err-replayed-in-Replay
-returns-in_err-replayed-in-Replay g c =
+pub returns-in_err-replayed-in-Replay-clause-concludes : goal.returns-in_err-replayed-in-Replay-clause-concludes
+returns-in_err-replayed-in-Replay-clause-concludes g c =
     let p = err_from_is_err_and c.from_residual-in_err-replayed-in-Replay.result c.from_residual-in_err-replayed-in-Replay.ensures.1 in
     rw (p.1, p.2, c.in-Replay.is) c.in_err-replayed-in-Replay.ensures

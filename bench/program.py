@@ -1,0 +1,43 @@
+"""Where the program is, and how the scripts of this folder run it and the small C programs beside them."""
+import os
+import subprocess
+import sys
+import time
+
+HERE = os.path.dirname(os.path.abspath(__file__))
+TOP = os.path.dirname(HERE)
+FOLDER = os.path.join(TOP, "out", "bench")
+
+
+def program():
+    """The built program: the one that BIDPRICE names, or that of this repository."""
+    path = os.environ.get("BIDPRICE", os.path.join(TOP, "crates", "bidprice", "out", "bidprice"))
+    if not os.access(path, os.X_OK):
+        sys.exit(f"{path} is not there: a first call of ./bidprice builds it")
+    return path
+
+
+def build(name):
+    """Builds one of the C programs beside this script."""
+    os.makedirs(FOLDER, exist_ok=True)
+    made = os.path.join(FOLDER, name)
+    subprocess.run(["gcc", "-O2", "-o", made, os.path.join(HERE, name + ".c")], check=True)
+    return made
+
+
+def timed(command, said=os.devnull, statuses=(0,)):
+    """Seconds and status of one run, whose output goes to a file."""
+    action = [(os.POSIX_SPAWN_OPEN, 1, said, os.O_WRONLY | os.O_CREAT | os.O_TRUNC, 0o644)]
+    begin = time.perf_counter()
+    child = os.posix_spawn(command[0], command, os.environ, file_actions=action)
+    _, status = os.waitpid(child, 0)
+    taken = time.perf_counter() - begin
+    status = os.waitstatus_to_exitcode(status)
+    if status not in statuses:
+        sys.exit(f"{' '.join(command)} ended with status {status}")
+    return taken, status
+
+
+def peak(command):
+    """The most memory that a run had, in KiB."""
+    return int(subprocess.run([build("peak"), *command], stdout=subprocess.DEVNULL, stderr=subprocess.PIPE, check=True).stderr)

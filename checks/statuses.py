@@ -229,6 +229,18 @@ def try_lines(tally, program, folder):
         tally.expect(named(words), (done.returncode, kept, done.stderr), (0, lines, b""))
 
 
+def try_runs(tally, program, folder):
+    """Runs each example hotel's script beside two workers: whatever they publish, the journal is legal on those files."""
+    for hotel in ["lindenhof", "season"]:
+        files = [EXAMPLE.parent / hotel / name for name in ["hotel.toml", "stays.csv", "forecast.csv", "bookings.csv"]]
+        ran = run(program, folder, ["desk", *files, EXAMPLE.parent / hotel / "script.csv"])
+        (Path(folder) / "run-of-a-hotel").write_bytes(ran.stdout)
+        judged = run(program, folder, ["replay", *files, "run-of-a-hotel"])
+        entries = sum(line[:1].isdigit() for line in ran.stdout.splitlines())
+        wanted = (0, b"", 0, b"legal %d\n" % entries, b"")
+        tally.expect(f"a run of {hotel}", (ran.returncode, ran.stderr, judged.returncode, judged.stdout, judged.stderr), wanted)
+
+
 def try_words_that_are_no_text(tally, program, folder):
     done = run(program, folder, ["check", b"\xff", "certificate"])
     tally.expect("words that are no text", (done.returncode, done.stdout), (2, b""))
@@ -281,6 +293,7 @@ def main():
             (Path(folder) / name).write_bytes(data)
         (Path(folder) / "folder").mkdir()
         try_lines(tally, program, folder)
+        try_runs(tally, program, folder)
         try_words_that_are_no_text(tally, program, folder)
         try_output_that_fails(tally, program, folder)
         try_want_of_memory(tally, program, folder)

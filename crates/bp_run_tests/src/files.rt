@@ -114,7 +114,7 @@ prices 0 100 40
 4 0 publish 4 vector 1
 value 140
 sell 0 0 1 2
-prices 60 40 40
+prices 0 110 40
 end
 ";
 

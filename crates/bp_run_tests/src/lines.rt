@@ -109,9 +109,9 @@ pub(crate) fn served() -> &'static [Line] {
         ("check A great-value", 3, "refused 2 limit 2\n"),
         ("check A goes-on", 3, "refused 2 trailing 6\n"),
         // No file has the name.
-        ("check B C", 4, "fault 1\n"),
-        ("check A B", 4, "fault 2\n"),
-        ("group B 0 1 1", 4, "fault 1\n"),
+        ("check K C", 4, "fault 1\n"),
+        ("check A K", 4, "fault 2\n"),
+        ("group K 0 1 1", 4, "fault 1\n"),
     ]
 }
 

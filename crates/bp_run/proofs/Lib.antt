@@ -9,7 +9,6 @@ pub mod HotelOneWay
 -- what a desk wrote is legal by `replay`
 pub mod Replays
 -- the house of a hotel has its nights and its stays
-pub mod HotelFits
 -- the house of a problem breaks no limit
 pub mod ProblemHouse
 -- what each kind of file and each command owes to completeness

@@ -13,7 +13,6 @@ use crate::house::{HotelFiles, load_house};
 use crate::stop::Stop;
 use bp_desk_run::{Ran, run_desk};
 use bp_edges::{Gate, Shelf};
-use bp_stayfile::law;
 use std::alloc::Global;
 use std::sync::Wait;
 use std::thread::Threads;
@@ -31,8 +30,6 @@ pub fn answer<R: Wait + Threads + Sync, S: Shelf, G: Gate>(
     requires { workers ≤ MOST_WORKERS }
     ensures { Brings (over S.held S.faults S.fetches S.last S.steady shelf.old shelf.new) (desk_command (named hotel.now) script.now workers) result }
 {
-    law::files_give_stays();
-    law::forecasts_keep_limits();
     let open = load_house(alloc, shelf, 1, hotel)?;
     let file = ScriptFile {
         hotel: &open.hotel,

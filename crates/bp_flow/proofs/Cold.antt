@@ -12,7 +12,7 @@ use Rattle.bp_types.proofs.RoomLemmas.{length-rooms_moved, rooms_moved-at, room_
 use Rattle.bp_residual.specs.Network.{Priced, Flow, IsPriced, IsEmptyFlowOf, greatest_rate}
 use Rattle.bp_residual.proofs.Empty.{empty_is_slack, empty_is_balanced}
 use Rattle.bp_flow.specs.Solving.{Solving, priced}
-use Rattle.bp_flow.specs.Solvers.{IsSolvedFlow, IsSolved, ColdSoFar, IsShortage, IsSolverOf}
+use Rattle.bp_flow.specs.Solvers.{IsSolvedFlow, IsSolved, ColdSoFar, IsShortage, IsSolverOf, CountsServed}
 use Rattle.bp_flow.specs.Settled.{IsSettled}
 
 pub cold_none : (program copied : Program) (p : Priced) → copied ≡ program → IsPriced p → IsEmptyFlowOf copied p → ColdSoFar program 0 p
@@ -81,3 +81,8 @@ cold_all program p q so_far same settled solved =
       settled = settled;
       solves = ap (λ (f : Flow). f.program) same ∙ ap (λ r. make r p.flow.program.stays) rooms ∙ ap (λ s. make program.rooms s) so_far.stays;
     }
+
+-- what is counted behind what was counted before is counted from the first on
+pub counts_further : (a b c s t u : ℕ) → CountsServed a b s t → CountsServed b c t u → CountsServed a c s u
+counts_further a b c s t u first second =
+    (omega (arith, first.0, second.0), (omega (arith, first.0, second.0, first.1.0, second.1.0), omega (arith, first.0, second.0, first.1.1, second.1.1)))

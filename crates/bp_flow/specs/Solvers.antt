@@ -54,6 +54,10 @@ difference a b = (a - b) + (b - a)
 abbrev pub CountsUpTo : ℕ → ℕ → ℕ → Type 0
 CountsUpTo old new most = (old ≤ new) × (new ≤ old + most)
 
+-- it has counted just the searches that a scratch served
+abbrev pub CountsServed : ℕ → ℕ → ℕ → ℕ → Type 0
+CountsServed old new served_old served_new = (old ≤ new) × Serves served_old served_new (new - old)
+
 -- it has counted just the searches that a scratch served, so many at most
 abbrev pub CountsSearches : ℕ → ℕ → ℕ → ℕ → ℕ → Type 0
 CountsSearches old new served_old served_new most = CountsUpTo old new most × Serves served_old served_new (new - old)

@@ -6,7 +6,7 @@ ghost use Rattle.bp_types.specs.Program.{stay_at};
 ghost use Rattle.bp_types.specs.Changes.{changed, Fits};
 ghost use Rattle.bp_residual.specs.Network.{Priced, greatest_rate, nodes};
 ghost use Rattle.bp_flow.specs.Solving.{Solving, priced};
-ghost use Rattle.bp_flow.specs.Solvers.{ColdSoFar, IsSolvedFlow, IsSolved, IsSolverOf, CountsSearches, difference};
+ghost use Rattle.bp_flow.specs.Solvers.{ColdSoFar, IsSolvedFlow, IsSolved, IsSolverOf, CountsSearches, CountsServed, difference};
 ghost use Rattle.bp_flow.specs.Settled.{IsSettled, IsSolvable};
 
 use crate::demand::reforecast;
@@ -46,7 +46,7 @@ impl Model for Solver {
 }
 
 impl Solver {
-    /// Solves an instance from nothing.
+    /// Solves an instance from nothing. The steps rise by the searches that its scratch served.
     pub fn cold<L: Ledger>(
         alloc: Global,
         instance: &Instance,
@@ -54,6 +54,7 @@ impl Solver {
     ) -> Result<Solver, Memory>
         ensures solver { IfOk result (IsSolverOf instance.now) }
         ensures solvable { IfOk result (λ _. IsSolvable instance.now) }
+        ensures counted { IfOk result (λ s. CountsServed steps.old steps.new 0 s.served) }
     {
         let mut solver = Solver::empty(alloc, instance)?;
         for night in 0..instance.nights() {
@@ -65,7 +66,8 @@ impl Solver {
 
     /// A solver on the instance without rooms.
     fn empty(alloc: Global, instance: &Instance) -> Result<Solver, Memory>
-        ensures { IfOk result (λ s. ColdSoFar instance.now 0 (priced s)) }
+        ensures so_far { IfOk result (λ s. ColdSoFar instance.now 0 (priced s)) }
+        ensures served { IfOk result (λ s. s.served ≡ 0) }
     {
         let flow = Flow::empty(alloc, instance.copy(alloc)?)?;
         let _nights = flow.nights();
@@ -88,7 +90,8 @@ impl Solver {
     fn fill<L: Ledger>(&mut self, instance: &Instance, night: u32, steps: &mut Steps<L>)
         requires so_far { ColdSoFar instance.now night (priced self.old) }
         requires in_range { night < length instance.now.rooms }
-        ensures { ColdSoFar instance.now (night + 1) (priced self.new) }
+        ensures so_far { ColdSoFar instance.now (night + 1) (priced self.new) }
+        ensures counted { CountsServed steps.old steps.new self.old.served self.new.served }
     {
         while self.rooms(night) < instance.rooms(night) {
             let Shortage { to, units } = shortage_at(self, instance, night);

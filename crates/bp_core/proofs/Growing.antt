@@ -3,7 +3,7 @@ use Rattle.std.proofs.Common.{◌≡◌, ℕ, zero, suc, ◌*◌, ◌==◌, ◌�
 use Rattle.std.specs.List.{list_any}
 use Rattle.std.specs.Arc.{arc_value}
 use Rattle.std.proofs.lemmas.List.{take-append-le, take-append-drop}
-use Rattle.std.proofs.Math.Seq.{take-append_seam}
+use Rattle.std.proofs.Math.Seq.{take-length}
 use Rattle.bp_types.specs.House.{is_from_one}
 use Rattle.bp_types.specs.declared.command.Command.TheVariants.{Book, Cancel, Reforecast, Reprice, Resize, Group}
 use Rattle.bp_types.specs.Displacement.{IsDisplacement}
@@ -11,6 +11,7 @@ use Rattle.bp_types.specs.Claim.{IsCertificateOf}
 use Rattle.bp_core.specs.declared.line.Act.{Act}
 use Rattle.bp_core.specs.declared.line.Act.TheVariants.{Do as DoAct, Publish as PublishAct, Enrol as EnrolAct, Leave as LeaveAct}
 use Rattle.bp_core.specs.declared.line.Line.{Line}
+use Rattle.bp_core.specs.declared.call.Call.{Call}
 use Rattle.bp_core.specs.declared.call.Call.TheVariants.{Do, Publish, Enrol, Leave}
 use Rattle.bp_core.specs.declared.call.Answer.{Answer}
 use Rattle.bp_core.specs.Lines.{History, is_by, calls}
@@ -92,16 +93,37 @@ right_stays_right h G H (Publish board least) grows right =
 right_stays_right h G H Enrol grows right = tt
 right_stays_right h G H Leave grows right = tt
 
+pub continues_same : (b : Diary) → Continues b b
+continues_same b = (refl, λ n within. (within, refl))
+
+-- what goes on from a book that goes on
+pub continues_further : (old mid new : Diary) → Continues old mid → Continues mid new → Continues old new
+continues_further old mid new first second = (
+  second.0 ∙ first.0,
+  λ n within. let was = first.1 n within in let is = second.1 n was.0 in (is.0, is.1 ∙ was.1),
+)
+
+continues_logged : (old new : Diary) (caller : ℕ) (call : Call) (answer : Answer) → IsLogged old new caller call answer → Continues old new
+continues_logged old new caller call answer logged =
+    let line = line_of caller call logged.reply in (
+      ap (λ (b : Diary). b.house) logged.adds,
+      λ n within. (
+        omega (arith, ap (λ (b : Diary). length b.history) logged.adds, length-append old.history (line ∷ []), within),
+        ap (λ (b : Diary). take n b.history) logged.adds ∙ take-append-le n old.history (line ∷ []) within,
+      ),
+    )
+
 pub answered_continues : AnsweredContinues
 answered_continues old new caller call answer is = go (refusal old.house old.history call) is
   where
     go : (o : Option Answer) → MatchOption o (IsLogged old new caller call answer) (IsRefused old new answer) → Continues old new
-    go None logged = subst (λ (b : Diary). Continues old b) (sym logged.adds) (record { house = refl; begins = take-append_seam old.history (line_of caller call logged.reply ∷ []) })
-    go (Some refused) same = subst (λ (b : Diary). Continues old b) (sym same.1) (record { house = refl; begins = ap (take (length old.history)) (sym (append-nil old.history)) ∙ take-append_seam old.history [] })
+    go None logged = continues_logged old new caller call answer logged
+    go (Some refused) same = subst (Continues old) (sym same.1) (continues_same old)
 
 pub continued_is_prefix : ContinuedIsPrefix
 continued_is_prefix old new continues =
-    (drop (length old.history) new.history, sym (take-append-drop (length old.history) new.history) ∙ ap (λ G. G ++ drop (length old.history) new.history) continues.begins)
+    let begins : take (length old.history) new.history ≡ old.history = (continues.1 (length old.history) (omega arith)).1 ∙ take-length old.history in
+    (drop (length old.history) new.history, sym (take-append-drop (length old.history) new.history) ∙ ap (λ G. G ++ drop (length old.history) new.history) begins)
 
 count_on : (xs rest : History) → count_by is_change xs ≤ count_by is_change (xs ++ rest)
 count_on xs [] = let e = ap (count_by is_change) (append-nil xs) in omega (arith, e)

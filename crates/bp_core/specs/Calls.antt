@@ -1,5 +1,5 @@
 -- Lists of calls, made one after the other.
-use Rattle.std.specs.Prelude.{◌≡◌, List, [], ◌∷◌, length, take}
+use Rattle.std.specs.Prelude.{◌≡◌, ℕ, ◌≤◌, List, [], ◌∷◌, length, take}
 use Rattle.bp_core.specs.declared.call.Answer.{Answer}
 use Rattle.bp_core.specs.declared.calls.Made.{Made}
 use Rattle.bp_types.specs.House.{Inn}
@@ -20,10 +20,10 @@ AreAnswered old new (made ∷ calls) [] = ⊥
 AreAnswered old new (made ∷ calls) (answer ∷ answers) =
     (next : Diary) × IsAnswered old next made.caller made.call answer × AreAnswered next new calls answers
 
--- the house is the same, and the history begins with the one before
-pub record Continues (old new : Diary) : Type 0 where
-  pub house : new.house ≡ old.house
-  pub begins : take (length old.history) new.history ≡ old.history
+-- the house is the same, and so is the history up to each position that was there
+abbrev pub Continues : Diary → Diary → Type 0
+Continues old new =
+    (new.house ≡ old.house) × ((n : ℕ) → n ≤ length old.history → (n ≤ length new.history) × (take n new.history ≡ take n old.history))
 
 -- the book of a house that opens with a vector
 abbrev pub opened_by : Inn → Posted → Diary

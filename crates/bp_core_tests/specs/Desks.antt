@@ -1,5 +1,5 @@
 -- What the tests know of a book between two calls.
-use Rattle.std.specs.Prelude.{◌≡◌, ℕ, ◌*◌, ◌≤◌, length, take}
+use Rattle.std.specs.Prelude.{ℕ, ◌*◌, ◌≤◌, length}
 use Rattle.bp_types.specs.declared.stay.Span.{Span}
 use Rattle.bp_types.specs.declared.command.Quoted.{Quoted}
 use Rattle.bp_types.specs.Displacement.{IsDisplacement}
@@ -7,11 +7,6 @@ use Rattle.bp_types.specs.Claim.{IsCertificateOf}
 use Rattle.bp_board.specs.Posted.{Posted}
 use Rattle.bp_core.specs.Acting.{Diary}
 use Rattle.bp_core.specs.Instance.{instance_at}
-
--- the house is the same, and so is the history up to each position that was there
-abbrev pub Continues : Diary → Diary → Type 0
-Continues old new =
-    (new.house ≡ old.house) × ((n : ℕ) → n ≤ length old.history → (n ≤ length new.history) × (take n new.history ≡ take n old.history))
 
 -- a board that may be published: its certificate is for the instance at its position
 abbrev pub IsBoardFor : Diary → Posted → Type 0

@@ -6,7 +6,8 @@ ghost use Rattle.bp_types.specs.Spans.{IsSpanWithin};
 ghost use Rattle.bp_types.specs.Claim.{IsCertificateOf};
 ghost use Rattle.bp_core.specs.Acting.{MayCall};
 ghost use Rattle.bp_core.specs.Instance.{units_left_at, stay_now, instance_of};
-ghost use Rattle.bp_core_tests.specs.Desks.{Continues, IsBoardFor, IsQuoteOf};
+ghost use Rattle.bp_core.specs.Calls.{Continues};
+ghost use Rattle.bp_core_tests.specs.Desks.{IsBoardFor, IsQuoteOf};
 
 use bp_board::Board;
 use bp_cert::{Verdict, check};

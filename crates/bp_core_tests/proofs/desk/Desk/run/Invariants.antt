@@ -1,4 +1,4 @@
-use Rattle.bp_core_tests.specs.Desks.{Continues}
+use Rattle.bp_core.specs.Calls.{Continues}
 use Rattle.bp_core_tests.proofs.desk.Desk.run.Given as goal
 
 -- the rows before this one are called

@@ -1,3 +1,4 @@
+pub mod DigitLemmas
 pub mod DateLemmas
 pub mod DayLemmas
 pub mod StepLemmas

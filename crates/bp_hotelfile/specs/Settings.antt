@@ -1,5 +1,5 @@
 -- What stands under the keys, in their order.
-use Rattle.std.specs.Prelude.{ℕ, Bool, ◌+◌, nat_le, if◌then◌else◌, List, Option, Some, None, Result, Ok, Err}
+use Rattle.std.specs.Prelude.{ℕ, ◌+◌, nat_le, if◌then◌else◌, List, Option, Some, None, Result, Ok, Err}
 use Rattle.std.specs.Option.{ok_or}
 use Rattle.toml.specs.Data.{Data, Members, get_member, as_str, as_integer}
 use Rattle.bp_types.specs.declared.command.Limits.{Limits}

@@ -3,6 +3,7 @@ ghost use Rattle.std.specs.Str.{all_ascii_digits};
 ghost use Rattle.bp_hotelfile.specs.Numbers.{number};
 ghost use Rattle.bp_hotelfile.specs.Dates.{day_of, day_of_parts, first_day};
 
+use bp_text::Number;
 use jiff::civil::Date;
 use jiff_core::civil;
 
@@ -14,14 +15,11 @@ fn digits(bytes: &[u8]) -> Option<u16>
     requires { length bytes.now ≤ 4 }
     ensures { result ≡ (if all_ascii_digits bytes.now then Some (number bytes.now) else None) }
 {
-    let mut number: u16 = 0;
-    for byte in bytes {
-        if !byte.is_ascii_digit() {
-            return None;
-        }
-        number = 10 * number + u16::from(*byte - b'0');
+    match bp_text::digits(bytes, 9_999) {
+        Number::Value(value) => Some(value as u16),
+        Number::Bad => None,
+        Number::Great => unreachable!(),
     }
-    Some(number)
 }
 
 /// The day number of a year, a month and a day, where they are a date.

@@ -1,4 +1,4 @@
-use Rattle.std.proofs.Common.{◌≡◌, ◌≢◌, ◌<◌, ◌∙◌, sym, ap, subst, List, ℕ, Option, Some, length, take, drop, get_or, None, arith, length-take, Ok, map, unwrap_or, IfOk}
+use Rattle.std.proofs.Common.{◌≡◌, ◌∙◌, length, None, arith, length-take}
 use Rattle.std.proofs.lemmas.List.{with_items_is, take_all}
 use Rattle.std.proofs.lemmas.Result.{err_from_is_err_and}
 use Rattle.bp_hotelfile.specs.Nights.{refused_table}

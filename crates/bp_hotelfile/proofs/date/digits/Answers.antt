@@ -1,0 +1,11 @@
+use Rattle.bp_hotelfile.proofs.DigitLemmas.{value_read, bad_read, none_too_great}
+use Rattle.bp_hotelfile.proofs.date.digits.Goals as goal
+
+pub unreachable-requires : goal.unreachable-requires
+unreachable-requires c = none_too_great c.args.bytes.now 4 c.requires c.in-Great.ensures
+
+pub returns-in-Value : goal.returns-in-Value
+returns-in-Value c = value_read c.args.bytes.now 9999 c.in-Value.value c.in-Value.ensures
+
+pub returns-in-Bad : goal.returns-in-Bad
+returns-in-Bad c = bad_read c.args.bytes.now 9999 c.in-Bad.ensures

@@ -1,5 +1,5 @@
 -- The counts of a file, laid out by stay.
-use Rattle.std.proofs.Common.{◌≡◌, ◌∙◌, sym, ap, refl, ℕ, zero, suc, ◌+◌, ◌≤◌, ◌<◌, Bool, true, false, cond, eqb, eq-eqb, nat_le, List, [], ◌∷◌, ◌++◌, map, length, get_or, set, replicate, unwrap_or, Option, Some, None, is_some, Result, Ok, Err, arith, inl, inr, length-set, get_or-set_same, get_or-set_other}
+use Rattle.std.proofs.Common.{◌≡◌, ◌∙◌, sym, ap, refl, subst, count_by, ℕ, zero, suc, ◌+◌, ◌≤◌, ◌<◌, Bool, true, false, cond, eqb, eq-eqb, nat_le, List, [], ◌∷◌, ◌++◌, map, length, get_or, set, replicate, unwrap_or, Option, Some, None, is_some, Result, Ok, Err, arith, inl, inr, length-set, get_or-set_same, get_or-set_other}
 use Rattle.std.proofs.lemmas.Bool.{cases_eq, leb-true, false≢true}
 use Rattle.std.proofs.lemmas.Bool.Decides.{nat_tests}
 use Rattle.std.proofs.lemmas.List.{length-replicate}
@@ -10,7 +10,10 @@ use Rattle.bp_types.specs.Program.{covers, no_stay}
 use Rattle.bp_types.proofs.SumLemmas.{sum_below-cong}
 use Rattle.std.specs.Option.{ok_or}
 use Rattle.std.specs.Str.{bytes_eq}
+use Rattle.std.proofs.lemmas.List.Sums.{count_by-le-length}
 use Rattle.bp_hotelfile.specs.Steps.{◌>>=◌}
+use Rattle.bp_hotelfile.proofs.StepLemmas.{steps_tell}
+use Rattle.bp_stayfile.specs.Reading.{rows_read}
 use Rattle.bp_stayfile.specs.declared.counts.Counted.{Counted}
 use Rattle.bp_stayfile.specs.declared.error.TableRefusal.{TableRefusal}
 use Rattle.bp_stayfile.specs.declared.error.TableRefusal.TheVariants.{NoCode, Limit, TwiceCode}
@@ -185,3 +188,46 @@ forecasts_set-AreStays nights counts stays small all =
 
     at : (k : ℕ) (d : Stay) → k < length stays → get_or (forecasts_set counts stays) k d ≡ forecast_by (count_of counts k) (get_or stays k no_stay)
     at k d within = get_or-map-range_with_len (λ j. forecast_by (count_of counts j) (get_or stays j no_stay)) 0 (length stays) k k d within (omega arith)
+
+-- a place more that is filled
+filled_more : (places : List (Option ℕ)) (j x : ℕ) → j < length places → get_or places j None ≡ None → count_by is_some (set places j (Some x)) ≡ count_by is_some places + 1
+filled_more [] j x below free = absurd (omega arith)
+filled_more (None ∷ places) zero x below free = let one : 1 + count_by is_some places ≡ 0 + count_by is_some places + 1 = omega arith in one
+filled_more (Some y ∷ places) zero x below free = absurd (cc)
+filled_more (o ∷ places) (suc j) x below free = omega (arith, filled_more places j x (omega arith) free)
+
+none_filled : (n : ℕ) → count_by is_some (replicate {A = Option ℕ} n None) ≡ 0
+none_filled zero = refl
+none_filled (suc n) = omega (arith, none_filled n)
+
+once_counted-ok : (line : ℕ) (earlier : Option ℕ) (c d : Counted) → once_counted line earlier c ≡ Ok d → (earlier ≡ None) × (c ≡ d)
+once_counted-ok line None c d e = (refl, (cc))
+once_counted-ok line (Some k) c d e = absurd (cc)
+
+-- counts that are read fill as many places as there are rows
+filled_by : (codes : List (List ℕ)) (rows : List Record) (n : ℕ) (counts : List Counted) → rows_read (count_rule codes) rows n ≡ Ok counts →
+    (places : List (Option ℕ)) × AreLaidOut (length codes) counts places × (count_by is_some places ≡ n)
+filled_by codes rows zero counts e =
+    let same : [] ≡ counts = (cc) in
+    (replicate (length codes) None, subst (λ cs. AreLaidOut (length codes) cs (replicate (length codes) None)) same (AreLaidOut-none (length codes) (replicate (length codes) None) refl), none_filled (length codes))
+filled_by codes rows (suc n) counts e =
+    let row : Record = get_or rows n [] in
+    let (before, read, rest) = steps_tell (rows_read (count_rule codes) rows n) (λ b. count_rule codes b row >>= (λ a. Ok (b ++ a ∷ []))) counts e in
+    let (one, answer, last) = steps_tell (count_rule codes before row) (λ a. Ok (before ++ a ∷ [])) counts rest in
+    let line = length before + 2 in
+    let (counted, is, once) = steps_tell (counted_in codes line row) (λ c. once_counted line (count_of before c.stay) c) one answer in
+    let (within, small) = counted_in-tells codes line row counted is in
+    let (free, same_one) = once_counted-ok line (count_of before counted.stay) counted one once in
+    let (places, laid_out, filled) = filled_by codes rows n before read in
+    let empty : get_or places counted.stay None ≡ None = laid_out.each counted.stay within ∙ free in
+    let all : before ++ counted ∷ [] ≡ counts = ap (λ c. before ++ c ∷ []) same_one ∙ (cc) in (
+      set places counted.stay (Some counted.count),
+      subst (λ cs. AreLaidOut (length codes) cs (set places counted.stay (Some counted.count))) all (AreLaidOut-more (length codes) before places counted laid_out within small empty),
+      omega (arith, filled_more places counted.stay counted.count (omega (arith, laid_out.one_each, within)) empty, filled),
+    )
+
+-- no rows more than there are codes are taken
+pub counts_few : (codes : List (List ℕ)) (rows : List Record) (counts : List Counted) → rows_read (count_rule codes) rows (length codes + 1) ≡ Ok counts → ⊥
+counts_few codes rows counts e =
+    let (places, laid_out, filled) = filled_by codes rows (length codes + 1) counts e in
+    omega (arith, count_by-le-length is_some places, filled, laid_out.one_each)

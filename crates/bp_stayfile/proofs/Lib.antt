@@ -4,6 +4,7 @@ pub mod TextLemmas
 pub mod RowLemmas
 pub mod CodeLemmas
 pub mod ReadLemmas
+pub mod CutLemmas
 pub mod StayLemmas
 pub mod CountLemmas
 pub mod ForecastLemmas

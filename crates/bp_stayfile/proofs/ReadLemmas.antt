@@ -11,7 +11,7 @@ pub rows_read-more : {A : Type 0} (rule : List A → Record → Result A TableRe
 rows_read-more rule rows n before answer so_far here = rw (add-one, so_far, here)
 
 -- the first refusal is the answer of the whole table
-rows_read-stays : {A : Type 0} (rule : List A → Record → Result A TableRefusal) (rows : List Record) (e : TableRefusal) (n m : ℕ) → rows_read rule rows n ≡ Err e → n ≤ m → rows_read rule rows m ≡ Err e
+pub rows_read-stays : {A : Type 0} (rule : List A → Record → Result A TableRefusal) (rows : List Record) (e : TableRefusal) (n m : ℕ) → rows_read rule rows n ≡ Err e → n ≤ m → rows_read rule rows m ≡ Err e
 rows_read-stays rule rows e n zero h le = let same : n ≡ 0 = omega arith in rw same at h
 rows_read-stays rule rows e n (suc m) h le =
     elim (cases_eq n (suc m)) [

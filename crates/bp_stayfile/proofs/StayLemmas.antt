@@ -12,14 +12,15 @@ use Rattle.bp_hotelfile.specs.Season.{Season, night_of}
 use Rattle.bp_hotelfile.specs.Steps.{◌>>=◌}
 use Rattle.bp_stayfile.specs.declared.error.TableRefusal.{TableRefusal}
 use Rattle.bp_stayfile.specs.declared.error.TableRefusal.TheVariants.{Limit, TwiceCode}
-use Rattle.bp_stayfile.specs.Tables.{Record, table_of}
-use Rattle.bp_stayfile.specs.Reading.{rows_read, unless_stopped, table_read}
+use Rattle.bp_stayfile.specs.Tables.{Record, Table, table_of}
+use Rattle.bp_stayfile.specs.Reading.{rows_read, unless_stopped, table_read, ReadsAs}
 use Rattle.bp_stayfile.specs.Cells.{code_in, number_in, date_in, span_in, limits_in}
 use Rattle.bp_stayfile.specs.Codes.{stay_with, IsCodes}
 use Rattle.bp_stayfile.specs.Stays.{Coded, codes_of, once, stay_in, stay_rule, stays_of, stay_columns, list_of, stays_under, stays_file}
 use Rattle.bp_stayfile.specs.StayList.{StayList, AreStays, IsStayList}
 use Rattle.bp_hotelfile.proofs.StepLemmas.{steps_tell}
 use Rattle.bp_stayfile.proofs.CodeLemmas.{IsCodes-more}
+use Rattle.bp_stayfile.proofs.CutLemmas.{as_many_read}
 
 -- what is known of a stay that was read
 pub record IsStay (nights : ℕ) (s : Stay) : Type 0 where
@@ -173,3 +174,13 @@ stays_file-tells season bytes list e =
     let same : list_of season coded ≡ list = (cc) in
     let is = list_of-tells season coded (subst (AreCoded (length season.rooms)) same_coded (coded_tell season table.rows (length table.rows) before rows)) in
     (subst IsStayList same is, sym (ap (λ (l : StayList). l.nights) same))
+
+-- no rows more than there may be stays are taken
+pub stays_few : (season : Season) (rows : List Record) (coded : List Coded) → rows_read (stay_rule season) rows (MOST_STAYS + 1) ≡ Ok coded → ⊥
+stays_few season rows coded e =
+    omega (arith, (coded_tell season rows (MOST_STAYS + 1) coded e).stays.few, length-map coded (λ (x : Coded). x.1), as_many_read (stay_rule season) rows (MOST_STAYS + 1) coded e)
+
+-- a stays file by a table that is read as its own
+pub file_by_part : (season : Season) (bytes : List ℕ) (part whole : Table) → table_of stay_columns bytes ≡ Ok whole → ReadsAs (stay_rule season) part whole → stays_file season bytes ≡ stays_under season part
+file_by_part season bytes part whole is reads =
+    ap (λ t. t >>= stays_under season) is ∙ sym (ap (λ r. r >>= (λ coded. Ok (list_of season coded))) reads.read)

@@ -31,3 +31,8 @@ module _ {A : Type 0} where
   -- what the rows of a table say
   abbrev pub table_read : (List A → Record → Result A TableRefusal) → Table → Result (List A) TableRefusal
   table_read rule table = rows_read rule table.rows (length table.rows) >>= unless_stopped table.stop
+
+  -- the rule reads of the one table what it reads of the other, and refuses it after the same rows
+  pub record ReadsAs (rule : List A → Record → Result A TableRefusal) (part whole : Table) : Type 0 where
+    pub read : table_read rule part ≡ table_read rule whole
+    pub refused : (before : List A) (e : TableRefusal) → IsRefusedAfter rule part before e → IsRefusedAfter rule whole before e

@@ -1,5 +1,5 @@
 -- A table: the records that `csv` gives, their columns found by name.
-use Rattle.std.specs.Prelude.{◌≡◌, ℕ, ◌+◌, ◌<◌, ◌≤◌, true, Bool, ◌&&◌, ◌==◌, if◌then◌else◌, List, [], ◌∷◌, map, take, find, length, slice_index_or, Option, Some, None, Result, Ok, Err, All}
+use Rattle.std.specs.Prelude.{◌≡◌, ℕ, ◌+◌, ◌<◌, ◌≤◌, true, Bool, ◌&&◌, ◌==◌, nat_le, if◌then◌else◌, List, [], ◌∷◌, map, take, find, length, slice_index_or, Option, Some, None, Result, Ok, Err, All}
 use Rattle.std.specs.List.{list_all, prefix_len, position_or_len, take_while}
 use Rattle.std.specs.Str.{is_utf8, bytes_eq}
 use Rattle.csv.specs.Reading.{default_config, records, strip_bom}
@@ -85,12 +85,12 @@ table_from columns (header ∷ records) = table_under columns header records
 abbrev pub table_of : List Column → List ℕ → Result Table TableRefusal
 table_of columns bytes = table_from columns (records_of bytes)
 
--- the rows at some places of the first so many records
-abbrev pub rows_of : List ℕ → ℕ → List Record → List Record
-rows_of places count records = map (row_at places) (take count records)
+-- a table up to so many rows, where it has as many; what stands behind them is then not told
+abbrev pub cut : ℕ → Table → Table
+cut most table =
+    if nat_le most (length table.rows) then record { columns = table.columns; rows = take most table.rows; stop = None } else table
 
--- each of the first so many records is text, and has the places
-pub record HaveRows (places : List ℕ) (count : ℕ) (records : List Record) : Type 0 where
-  pub within : count ≤ length records
-  pub text : (k : ℕ) → k < count → is_text (slice_index_or records k []) ≡ true
-  pub wide : (k : ℕ) → k < count → All (λ p. p < length (slice_index_or records k [])) places
+-- each record is text, and has the places
+pub record HaveRows (places : List ℕ) (records : List Record) : Type 0 where
+  pub text : (k : ℕ) → k < length records → is_text (slice_index_or records k []) ≡ true
+  pub wide : (k : ℕ) → k < length records → All (λ p. p < length (slice_index_or records k [])) places

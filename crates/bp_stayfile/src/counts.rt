@@ -1,13 +1,13 @@
 ghost use Rattle.std.specs.Prelude.{◌≡◌, ◌<◌, ◌+◌, ◌^◌, ◌≤◌, ℕ, List, [], length, slice_index_or, MatchResult, IfOk, IfErr, Ok, Err, Some, None, is_some, slice_set, true, replicate};
 ghost use Rattle.bp_stayfile.specs.declared.counts.Counted.{Counted};
-ghost use Rattle.bp_stayfile.specs.Reading.{table_read, IsRefusedAfter};
-ghost use Rattle.bp_stayfile.specs.Tables.{table_of};
+ghost use Rattle.bp_stayfile.specs.Reading.{table_read, IsRefusedAfter, ReadsAs};
+ghost use Rattle.bp_stayfile.specs.Tables.{Table, table_of};
 ghost use Rattle.bp_stayfile.specs.Counts.{count_of, count_in, counted_in, count_rule, count_columns, counts_file};
 ghost use Rattle.bp_stayfile.specs.LaidOut.{AreLaidOut};
 ghost use Rattle.bp_stayfile.specs.Refusals.{IfRefused};
 
 use crate::cells::{code_in, number_in};
-use crate::tables::{Rows, rows};
+use crate::tables::{Rows, rows_up_to};
 use crate::{Codes, Column, TableError, TableRefusal};
 use bp_types::Memory;
 use bp_types::limits::MOST_FORECAST;
@@ -92,12 +92,14 @@ pub(crate) fn put_counts(
     }
 }
 
-/// The rows of a forecast or a bookings file.
-pub(crate) fn count_rows(alloc: Global, bytes: &[u8]) -> Result<Rows, TableError>
-    ensures read { IfOk result (λ t. (table_of count_columns bytes.now ≡ Ok t) × (t.columns ≡ 2)) }
+/// The rows of a forecast or a bookings file, as far as they may be taken: each names a stay that no other names.
+pub(crate) fn count_rows(alloc: Global, codes: &Codes, bytes: &[u8]) -> Result<Rows, TableError>
+    ensures read { IfOk result (λ t. (whole : Table) × (table_of count_columns bytes.now ≡ Ok whole)
+        × ReadsAs (count_rule codes.now) t whole × (t.columns ≡ 2)) }
     ensures refused { IfErr result (λ e. IfRefused e (λ r. table_of count_columns bytes.now ≡ Err r)) }
 {
-    rows(alloc, bytes, &COLUMNS)
+    let too_many = u64::from(codes.count()) + 1;
+    rows_up_to(alloc, bytes, &COLUMNS, too_many)
 }
 
 /// The counts of a forecast or a bookings file, one place per stay.
@@ -110,7 +112,7 @@ pub(crate) fn counts_of(
         × AreLaidOut (length codes.now) counts v.items) }
     ensures refused { IfErr result (λ e. IfRefused e (λ r. counts_file codes.now bytes.now ≡ Err r)) }
 {
-    let rows = count_rows(alloc, bytes)?;
+    let rows = count_rows(alloc, codes, bytes)?;
     let mut counts = no_counts(alloc, codes.count() as usize)?;
     put_counts(codes, &rows, &mut counts)?;
     Ok(counts)

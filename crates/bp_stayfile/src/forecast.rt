@@ -16,7 +16,7 @@ pub fn read_forecast(alloc: Global, stays: &mut Stays, bytes: &[u8]) -> Result<(
     ensures set_before { IfErr result (λ e. IfRefused e (λ r. SetsBefore bytes.now r stays.old stays.new)) }
     ensures no_memory { IfErr result (λ e. e ≡ TableError.Memory → stays.new ≡ stays.old) }
 {
-    let rows = count_rows(alloc, bytes)?;
+    let rows = count_rows(alloc, stays.codes(), bytes)?;
     let mut counts = no_counts(alloc, stays.codes().count() as usize)?;
     let outcome = put_counts(stays.codes(), &rows, &mut counts);
     stays.set_forecasts(&counts);

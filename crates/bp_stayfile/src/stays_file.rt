@@ -1,16 +1,22 @@
 ghost use Rattle.std.specs.Prelude.{◌≡◌, ◌<◌, ◌+◌, ◌^◌, length, slice_index_or, [], IfOk, IfErr, Ok, Err};
-ghost use Rattle.bp_stayfile.specs.Reading.{table_read};
+ghost use Rattle.bp_stayfile.specs.Reading.{ReadsAs};
 ghost use Rattle.bp_stayfile.specs.Refusals.{IfRefused};
-ghost use Rattle.bp_stayfile.specs.Stays.{stay_in, stays_under, stays_file};
+ghost use Rattle.bp_hotelfile.specs.Season.{Season};
+ghost use Rattle.bp_stayfile.specs.Stays.{stay_in, stay_rule, stay_columns, stays_under, stays_file};
+ghost use Rattle.bp_stayfile.specs.Tables.{Table, table_of};
 
 use crate::cells::{code_in, date_in, limits_in, number_in, span_in};
-use crate::tables::{Rows, rows};
+use crate::tables::{Rows, rows_up_to};
 use crate::{Codes, Column, Stays, TableError, TableRefusal};
 use bp_hotelfile::Hotel;
 use bp_types::Stay;
+use bp_types::limits::MOST_STAYS;
 use std::alloc::Global;
 
 const COLUMNS: [Column; 4] = [Column::Code, Column::Arrival, Column::Nights, Column::Rate];
+
+/// One row more than there may be stays. No stays file has as many rows that are taken.
+const TOO_MANY: u64 = MOST_STAYS as u64 + 1;
 
 /// The stay of a row, after as many codes as there are rows before it.
 fn stay_in(hotel: &Hotel, codes: &Codes, rows: &Rows, row: u64) -> Result<Stay, TableRefusal>
@@ -65,6 +71,15 @@ fn stays_under(alloc: Global, hotel: &Hotel, rows: &Rows) -> Result<Stays, Table
     }
 }
 
+/// The rows of a stays file, as far as they may be stays.
+fn stay_rows(alloc: Global, bytes: &[u8]) -> Result<Rows, TableError>
+    ensures read { IfOk result (λ t. (whole : Table) × (table_of stay_columns bytes.now ≡ Ok whole)
+        × ((season : Season) → ReadsAs (stay_rule season) t whole) × (t.columns ≡ 4)) }
+    ensures refused { IfErr result (λ e. IfRefused e (λ r. table_of stay_columns bytes.now ≡ Err r)) }
+{
+    rows_up_to(alloc, bytes, &COLUMNS, TOO_MANY)
+}
+
 /// The stays of a stays file, in the order of the file, or the first thing that is wrong.
 ///
 /// Nothing is forecast for them yet.
@@ -73,6 +88,6 @@ pub fn read_stays(alloc: Global, hotel: &Hotel, bytes: &[u8]) -> Result<Stays, T
     ensures of_hotel { IfOk result (λ s. s.nights ≡ length hotel.now.rooms) }
     ensures refused { IfErr result (λ e. IfRefused e (λ r. stays_file hotel.now bytes.now ≡ Err r)) }
 {
-    let rows = rows(alloc, bytes, &COLUMNS)?;
+    let rows = stay_rows(alloc, bytes)?;
     stays_under(alloc, hotel, &rows)
 }

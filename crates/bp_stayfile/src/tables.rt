@@ -7,5 +7,5 @@ mod reading;
 mod table;
 
 pub use fields::{is_code, number_of};
-pub use named::rows;
+pub use named::{rows, rows_up_to};
 pub use table::Rows;

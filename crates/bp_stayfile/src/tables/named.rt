@@ -1,14 +1,14 @@
-ghost use Rattle.std.specs.Prelude.{◌≡◌, ◌+◌, ◌^◌, ◌<◌, ◌==◌, if◌then◌else◌, true, List, map, drop, length, All, Some, None, IfOk, IfErr, IsTrue, Ok, Err};
-ghost use Rattle.std.specs.List.{prefix_len};
+ghost use Rattle.std.specs.Prelude.{◌≡◌, ◌<◌, true, List, length, All, None, IfOk, IfErr, IsTrue, Ok, Err};
 ghost use Rattle.csv.specs.Records.{fields_of};
 ghost use Rattle.bp_stayfile.specs.Refusals.{IfRefused};
-ghost use Rattle.bp_stayfile.specs.Tables.{Record, is_text, is_taken, place_of, lacking, rows_at, places_of, table_under, table_of};
+ghost use Rattle.bp_stayfile.specs.Records.{IsReading, records_left};
+ghost use Rattle.bp_stayfile.specs.Tables.{Record, Table, is_text, is_taken, place_of, lacking, rows_at, places_of, table_under, table_of, cut};
 
-use super::reading::{field_at, is_text, records_of};
+use super::reading::{field_at, is_text, next_record, reader_of};
 use super::table::Rows;
 use crate::{Column, TableError, TableRefusal};
 use bp_types::Memory;
-use csv::ByteRecord;
+use csv::{ByteRecord, Reader};
 use std::alloc::Global;
 
 /// The place of a column in a header, or past its last field.
@@ -57,45 +57,46 @@ fn is_taken(width: usize, raw: &ByteRecord) -> bool
     raw.len() == width && is_text(raw)
 }
 
-/// How many records come before the first one that is not taken.
-fn taken_of(width: usize, records: &[ByteRecord]) -> usize
-    ensures { result ≡ prefix_len (is_taken width) (map fields_of records.now) }
+/// The rows of the records that a reader still gives, up to the first one that is not taken, and so many at most.
+fn rows_behind(
+    alloc: Global,
+    reader: &mut Reader<&[u8]>,
+    places: Vec<usize>,
+    width: usize,
+    most: u64,
+) -> Result<Rows, Memory>
+    requires reading { IsReading reader.old }
+    requires places { All (λ p. p < width) places.items }
+    ensures { IfOk result (λ t. t ≡ cut most (rows_at places.items width (records_left reader.old))) }
 {
-    for index in 0..records.len() {
-        if !is_taken(width, &records[index]) {
-            return index;
+    let mut records = Vec::new(alloc);
+    for row in 0..most {
+        let Some(record) = next_record(alloc, reader)? else {
+            let stop = None;
+            return Ok(Rows {
+                places,
+                records,
+                stop,
+            });
+        };
+        if !is_taken(width, &record) {
+            let stop = Some(records.len() as u64 + 2);
+            return Ok(Rows {
+                places,
+                records,
+                stop,
+            });
+        }
+        if records.push(record).is_err() {
+            return Err(Memory);
         }
     }
-    records.len()
-}
-
-/// The line of the first record that is not taken, where not all of them are.
-fn stop_of(taken: usize, records: usize) -> Option<u64>
-    requires { taken < 2 ^ 63 }
-    ensures { result ≡ (if taken == records then None else Some (taken + 2)) }
-{
-    if taken == records {
-        None
-    } else {
-        Some(taken as u64 + 2)
-    }
-}
-
-/// The rows of the records behind the header, up to the first one that is not taken.
-fn rows_at(places: Vec<usize>, width: usize, records: Vec<ByteRecord>) -> Rows
-    requires header { 0 < length records.items }
-    requires places { All (λ p. p < width) places.items }
-    ensures { result ≡ rows_at places.items width (drop 1 (map fields_of records.items)) }
-{
-    let behind = records.len() - 1;
-    let taken = taken_of(width, &records[1..]);
-    let stop = stop_of(taken, behind);
-    Rows {
+    let stop = None;
+    Ok(Rows {
         places,
         records,
-        taken,
         stop,
-    }
+    })
 }
 
 /// The places of the columns in a header, or what is wrong with it.
@@ -119,7 +120,30 @@ fn places_under(
     Ok(places_of(alloc, header, columns)?)
 }
 
-/// The rows of a text under the named columns, of which there is at least one.
+/// The rows of a text under the named columns, of which there is at least one, and no more rows than so many.
+///
+/// The header is judged before a record is held, and no record is held but the rows. A refusal is of the header: a
+/// field that is not UTF-8, or a column that it lacks.
+pub fn rows_up_to(
+    alloc: Global,
+    bytes: &[u8],
+    columns: &[Column],
+    most: u64,
+) -> Result<Rows, TableError>
+    requires { 0 < length columns.now }
+    ensures read { IfOk result (λ t. (whole : Table) × (table_of columns.now bytes.now ≡ Ok whole) × (t ≡ cut most whole)) }
+    ensures refused { IfErr result (λ e. IfRefused e (λ r. table_of columns.now bytes.now ≡ Err r)) }
+{
+    let mut reader = reader_of(alloc, bytes);
+    let Some(header) = next_record(alloc, &mut reader)? else {
+        let column = columns[0];
+        return Err(TableError::Refused(TableRefusal::Column { column }));
+    };
+    let places = places_under(alloc, columns, &header)?;
+    Ok(rows_behind(alloc, &mut reader, places, header.len(), most)?)
+}
+
+/// All rows of a text under the named columns, of which there is at least one.
 ///
 /// A refusal is of the header: a field that is not UTF-8, or a column that it lacks.
 pub fn rows(alloc: Global, bytes: &[u8], columns: &[Column]) -> Result<Rows, TableError>
@@ -127,13 +151,7 @@ pub fn rows(alloc: Global, bytes: &[u8], columns: &[Column]) -> Result<Rows, Tab
     ensures read { IfOk result (λ t. table_of columns.now bytes.now ≡ Ok t) }
     ensures refused { IfErr result (λ e. IfRefused e (λ r. table_of columns.now bytes.now ≡ Err r)) }
 {
-    let records = records_of(alloc, bytes)?;
-    if records.is_empty() {
-        let column = columns[0];
-        return Err(TableError::Refused(TableRefusal::Column { column }));
-    }
-    let header = &records[0];
-    let places = places_under(alloc, columns, header)?;
-    let width = header.len();
-    Ok(rows_at(places, width, records))
+    let rows = rows_up_to(alloc, bytes, columns, u64::MAX)?;
+    let _fewer = rows.count();
+    Ok(rows)
 }

@@ -1,33 +1,53 @@
-ghost use Rattle.std.specs.Prelude.{◌≡◌, ◌<◌, map, IfOk, MatchOption, IsTrue, slice_index_or, length, [], true, false};
+ghost use Rattle.std.specs.Prelude.{◌≡◌, ◌<◌, ◌∷◌, IfOk, MatchOption, IsTrue, slice_index_or, length, [], true, false};
 ghost use Rattle.std.specs.Str.{is_utf8};
+ghost use Rattle.csv.specs.Reading.{error_kind};
 ghost use Rattle.csv.specs.Records.{fields_of};
 ghost use Rattle.bp_stayfile.specs.Fields.{stripped};
+ghost use Rattle.bp_stayfile.specs.Records.{IsReading, IsWantOfMemory, records_left};
 ghost use Rattle.bp_stayfile.specs.Tables.{records_of, is_text, field_at};
 
 use super::fields::stripped;
 use bp_types::Memory;
-use csv::{ByteRecord, ReaderBuilder};
+use csv::{ByteRecord, Error, ErrorKind, Reader, ReaderBuilder};
 use std::alloc::Global;
 
-/// Every record of a text, the header first.
-pub(super) fn records_of(alloc: Global, bytes: &[u8]) -> Result<Vec<ByteRecord>, Memory>
-    ensures { IfOk result (λ v. map fields_of v.items ≡ records_of bytes.now) }
+/// A reader of the records of a text, the header first.
+pub(super) fn reader_of(alloc: Global, bytes: &[u8]) -> Reader<&[u8]>
+    ensures reading { IsReading result }
+    ensures records { records_left result ≡ records_of bytes.now }
 {
-    let reader = ReaderBuilder::new()
+    ReaderBuilder::new()
         .has_headers(false)
         .flexible(true)
-        .from_reader(alloc, bytes);
-    let mut records = Vec::new(alloc);
-    for record in reader.into_byte_records() {
-        // Over bytes in memory, and with records of any length allowed, the reader fails for want of memory alone.
-        let Ok(record) = record else {
-            return Err(Memory);
-        };
-        if records.push(record).is_err() {
-            return Err(Memory);
-        }
+        .from_reader(alloc, bytes)
+}
+
+/// Why a read fails that allows records of any length and asks for no text.
+fn want_of_memory(error: Error) -> Memory
+    requires { IsWantOfMemory (error_kind error) }
+{
+    match error.into_kind() {
+        ErrorKind::Io(_) | ErrorKind::OutOfMemory => Memory,
+        _ => unreachable!(),
     }
-    Ok(records)
+}
+
+/// The next record of a reader, if there is one.
+pub(super) fn next_record(
+    alloc: Global,
+    reader: &mut Reader<&[u8]>,
+) -> Result<Option<ByteRecord>, Memory>
+    requires { IsReading reader.old }
+    ensures { IfOk result (λ next. MatchOption next
+        (records_left reader.old ≡ [])
+        (λ r. IsReading reader.new × (records_left reader.old ≡ fields_of r ∷ records_left reader.new))) }
+{
+    let mut record = ByteRecord::new(alloc);
+    match reader.read_byte_record(&mut record) {
+        Ok(true) => Ok(Some(record)),
+        Ok(false) => Ok(None),
+        Err(error) => Err(want_of_memory(error)),
+    }
 }
 
 /// A field as text, where it is UTF-8.

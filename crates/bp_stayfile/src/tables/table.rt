@@ -12,23 +12,21 @@ use std::marker::Model;
 pub struct Rows {
     /// The place of each named column in a record.
     pub(super) places: Vec<usize>,
-    /// The header, and the records behind it.
+    /// The records behind the header that are rows.
     pub(super) records: Vec<ByteRecord>,
-    /// How many of the records behind the header are rows.
-    pub(super) taken: usize,
     pub(super) stop: Option<u64>,
 }
 
 impl Model for Rows {
-    ghost use Rattle.std.specs.Prelude.{length, map, drop};
+    ghost use Rattle.std.specs.Prelude.{length, map};
     ghost use Rattle.csv.specs.Records.{fields_of};
-    ghost use Rattle.bp_stayfile.specs.Tables.{Table, rows_of, HaveRows};
+    ghost use Rattle.bp_stayfile.specs.Tables.{Table, row_at, HaveRows};
 
     ghost Value = { Table };
 
-    ghost view = { λ a. record { columns = length a.places.items; rows = rows_of a.places.items a.taken (drop 1 (map fields_of a.records.items)); stop = a.stop } };
+    ghost view = { λ a. record { columns = length a.places.items; rows = map (row_at a.places.items) (map fields_of a.records.items); stop = a.stop } };
 
-    ghost invariant = { λ a. HaveRows a.places.items a.taken (drop 1 (map fields_of a.records.items)) };
+    ghost invariant = { λ a. HaveRows a.places.items (map fields_of a.records.items) };
 }
 
 impl Rows {
@@ -37,8 +35,7 @@ impl Rows {
         ensures value { result ≡ length self.now.rows }
         ensures fits { result < 2 ^ 63 }
     {
-        let _records = self.records.len();
-        self.taken as u64
+        self.records.len() as u64
     }
 
     /// A field of a row, without the spaces at its ends.
@@ -47,8 +44,7 @@ impl Rows {
         requires column { column < self.now.columns }
         ensures { result.now ≡ cell self.now row column }
     {
-        let _records = self.records.len();
-        let record = &self.records[row as usize + 1];
+        let record = &self.records[row as usize];
         field_at(record, self.places[column as usize])
     }
 

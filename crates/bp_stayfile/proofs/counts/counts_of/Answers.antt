@@ -11,4 +11,5 @@ returns-in_err-put_counts-clause-refused c =
     let p = err_from_is_err_and c.from_residual-in_err-put_counts.result c.from_residual-in_err-put_counts.ensures.1 in
     let (named, refused, laid_out) = c.in_err-put_counts.ensures in
     let rule = count_rule c.args.codes.now in
-    rw (p.1, p.2) (ap (λ t. t >>= table_read rule) c.in_ok-rows.ensures.read.0 ∙ refused_after-table rule c.in_ok-rows.rows named _ refused)
+    let (whole, file, reads, two) = c.in_ok-rows.ensures.read in
+    rw (p.1, p.2) (ap (λ t. t >>= table_read rule) file ∙ refused_after-table rule whole named _ (reads.refused named _ refused))

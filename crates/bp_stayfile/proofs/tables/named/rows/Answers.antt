@@ -1,7 +1,10 @@
-use Rattle.csv.specs.Records.{fields_of}
-use Rattle.bp_stayfile.proofs.RowLemmas.{places_fit}
+use Rattle.std.proofs.Common.{◌≡◌, ◌^◌, ◌-◌, sym, subst, Ok, arith}
+use Rattle.bp_stayfile.specs.Tables.{Table, table_of}
+use Rattle.bp_stayfile.proofs.CutLemmas.{uncut}
 use Rattle.bp_stayfile.proofs.tables.named.rows.Goals as goal
 
-pub rows_at-requires-clause-places : goal.rows_at-requires-clause-places
-rows_at-requires-clause-places c =
-    rw (c.in_ok-places.ensures.places, c.len-width.ensures) (places_fit (fields_of c.index-header.result.now) c.args.columns.now c.in_ok-places.ensures.all)
+pub returns-clause-read : goal.returns-clause-read
+returns-clause-read c =
+    let (whole, file, is) = c.in_ok-rows.ensures.read in
+    let P : Table → Type 0 = λ t. table_of c.args.columns.now c.args.bytes.now ≡ Ok t in
+    subst P (sym (uncut (2 ^ 64 - 1) c.in_ok-rows.rows whole is (omega (arith, c.count-_fewer.ensures.value, c.count-_fewer.ensures.fits)))) file

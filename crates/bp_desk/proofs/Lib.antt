@@ -5,3 +5,5 @@ pub mod Made
 pub mod Knowing
 pub mod Standing
 pub mod Quoting
+pub mod ReadingOn
+pub mod Submitted

@@ -5,12 +5,14 @@
 #![tactic(auto)]
 
 mod calls;
+mod carried;
 mod desk;
 mod newest;
 mod pass;
 mod reading;
 mod replies;
 mod shared;
+mod submitting;
 mod threads;
 
 pub use desk::{Desk, EnrolError};
@@ -19,4 +21,5 @@ pub use reading::Lag;
 pub use replies::{
     BookReply, BookStop, CancelReply, GroupReply, GroupStop, HistoryFull, PublishStop, ResizeReply,
 };
+pub use submitting::SubmitError;
 pub use threads::desk_crosses_threads;

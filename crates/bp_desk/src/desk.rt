@@ -1,4 +1,4 @@
-ghost use Rattle.std.specs.Prelude.{◌≡◌, ◌≢◌, ◌↔◌, ℕ, List, ◌∷◌, [], false, Err, IfOk, OnErr, IsOk, IsTrue};
+ghost use Rattle.std.specs.Prelude.{◌≡◌, ◌≢◌, ◌≤◌, ◌↔◌, ℕ, List, ◌∷◌, [], false, Err, IfOk, OnErr, IsOk, IsTrue};
 ghost use Rattle.std.specs.Arc.{arc_value};
 ghost use Rattle.bp_types.specs.Claim.{IsCertificateOf};
 ghost use Rattle.bp_types.specs.House.{Inn, opening};
@@ -10,6 +10,7 @@ ghost use Rattle.bp_core.specs.declared.line.Act.TheVariants.{Do as DoAct};
 ghost use Rattle.bp_core.specs.declared.line.Reply.TheVariants.{Done as DoneReply};
 ghost use Rattle.bp_core.specs.declared.line.Line.{Line};
 ghost use Rattle.bp_core.specs.Lines.{calls};
+ghost use Rattle.bp_core.specs.Callers.{greatest_caller};
 ghost use Rattle.bp_core.specs.Acting.{opening_line, IsCallRight};
 ghost use Rattle.bp_core.specs.Legal.{IsLegal, is_in_range};
 ghost use Rattle.bp_desk.specs.Newest.{IsNewest};
@@ -122,6 +123,7 @@ impl Desk {
             × (pass.new ≡ record pass.old { free = rest })
             × IsCalled (newcomer pass.old p.caller) p Enrol (Logged DoneReply)) }
         ensures calls { IfOk result (λ p. AddsCall (newcomer pass.old p.caller) p Enrol (Logged DoneReply)) }
+        ensures number { IfOk result (λ p. (1 ≤ p.caller) × (p.caller ≤ greatest_caller)) }
         ensures refused { OnErr result (pass.new ≡ pass.old) }
         ensures full { (result ≡ Err EnrolError.CallersFull) ↔ (pass.old.free ≡ []) }
     {
@@ -144,6 +146,7 @@ impl Desk {
             × (pass.new ≡ record pass.old { free = rest })
             × IsCalled (newcomer pass.old result.caller) result Enrol (Logged DoneReply) }
         ensures calls { AddsCall (newcomer pass.old result.caller) result Enrol (Logged DoneReply) }
+        ensures number { (1 ≤ result.caller) × (result.caller ≤ greatest_caller) }
     {
         let mut newest = newest;
         let caller = pass.next;

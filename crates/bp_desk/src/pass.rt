@@ -1,4 +1,4 @@
-ghost use Rattle.std.specs.Prelude.{◌≡◌, length, IsTrue};
+ghost use Rattle.std.specs.Prelude.{◌≡◌, ◌≤◌, length, All, IsTrue};
 ghost use Rattle.bp_types.specs.Program.{price};
 ghost use Rattle.bp_types.specs.Spans.{IsSpanWithin};
 ghost use Rattle.bp_core.specs.Lines.{calls, last_number, last_position, last_prices};
@@ -51,6 +51,7 @@ impl Pass {
         ensures legal { IsLegal self.now.house self.now.seen }
         ensures may { IsTrue (may_act self.now.seen self.now.caller) }
         ensures accounts { HasAccounts self.now }
+        ensures turns { All (λ t. t ≤ length self.now.seen) self.now.turns }
     {
         self.seat.facts();
     }
@@ -101,6 +102,7 @@ impl Left {
         ensures legal { IsLegal self.now.house self.now.seen }
         ensures left { IsTrue (has_left self.now.seen self.now.caller) }
         ensures own { calls self.now.seen self.now.caller ≡ self.now.calls }
+        ensures turns { All (λ t. t ≤ length self.now.seen) self.now.turns }
     {
         self.seat.facts();
     }

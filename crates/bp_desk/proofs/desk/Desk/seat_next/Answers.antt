@@ -1,4 +1,4 @@
-use Rattle.std.proofs.Common.{rules, ◌≢◌, ◌<◌, [], ap, sym, subst}
+use Rattle.std.proofs.Common.{rules, ◌≡◌, ◌≢◌, ◌<◌, [], ap, sym, subst, ◌∙◌, arith}
 use Rattle.bp_types.specs.declared.limits.TheConstants.{CALLERS}
 use Rattle.bp_core.specs.declared.call.Call.TheVariants.{Enrol}
 use Rattle.bp_desk.specs.Passes.{PassState, house_of, pass_of, newcomer}
@@ -39,3 +39,11 @@ returns-clause-enrolled g c =
     let called : IsCalled (newcomer (pass_of s) next) (pass_of new) Enrol c.make-answer.result = subst (λ (t : State). IsCalled (pass_of t) (pass_of new) Enrol c.make-answer.result) c.in-Ok.ensures.new c.make-answer.ensures.called in
     let all = enrolment s c.split.new.seat new c.pass.inside.caller next c.pass.inside.newest c.make-answer.result c.pass.invariant some c.split.ensures.seat called in
     rw (sym c.pass.view_is) all
+
+pub returns-clause-number : goal.returns-clause-number
+returns-clause-number g c =
+    let s = c.pass.inside.seat in let next = c.pass.inside.next in let new = c.make-answer.new.seat in
+    let some : next < CALLERS = next_below s c.pass.inside.caller next c.pass.inside.newest c.pass.invariant (subst (λ (q : PassState). q.free ≢ []) (sym c.pass.view_is) c.requires.some) in
+    let number : new.number ≡ next = ap (λ (q : PassState). q.caller) c.make-answer.ensures.called.pass ∙ ap (λ (t : State). t.number) c.in-Ok.ensures.new in
+    let one = c.pass.invariant.from_one in
+    (omega (arith, number, one), omega (arith, number, some))

@@ -4,5 +4,9 @@ pub mod RoomSteps
 pub mod Rates
 pub mod Solvable
 pub mod DemandSteps
+pub mod Rising
 pub mod Cold
+pub mod Carrying
 pub mod Certified
+pub mod WaySteps
+pub mod BookSteps

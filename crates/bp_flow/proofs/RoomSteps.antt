@@ -23,7 +23,7 @@ room_rises p s units n h =
     ]
 
 -- and of one in a span that gets fewer
-room_falls : (p : Program) (s : Span) (units n : ℕ) → HasUnits p s units → n < length p.rooms → slice_index (changed p (Rooms s false units)).rooms n + cond (covers s n) units 0 ≡ slice_index p.rooms n
+pub room_falls : (p : Program) (s : Span) (units n : ℕ) → HasUnits p s units → n < length p.rooms → slice_index (changed p (Rooms s false units)).rooms n + cond (covers s n) units 0 ≡ slice_index p.rooms n
 room_falls p s units n enough h =
     let e = rooms_moved-at p.rooms s false units n 0 h in
     elim (cases_lt n s.from) [

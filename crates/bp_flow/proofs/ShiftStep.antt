@@ -13,7 +13,7 @@ use Rattle.bp_residual.proofs.Lifts.{lift_keeps_slack, limit_keeps_slack}
 use Rattle.bp_residual.proofs.Augment.{shortest_paths_become_tight, push_moves_imbalance}
 use Rattle.bp_residual.proofs.PushLoop.{admits_along}
 use Rattle.bp_residual.proofs.Paths.{path_joins}
-use Rattle.bp_paths.specs.Paths.{ScratchView, AreDistancesUpTo, IsShortestPath}
+use Rattle.bp_paths.specs.Paths.{ScratchView, IsShortestPath, AreDistancesBelow}
 use Rattle.bp_paths.proofs.Answer.{admits_fewer}
 use Rattle.bp_flow.specs.Shift.{IsLiftedBy, IsShifting}
 
@@ -34,7 +34,7 @@ before_le v n units =
 pub spare_bound : (f : Flow) (from to units n : ℕ) → IsWithinLimits f.program → HasImbalance f from to units → n < length f.program.rooms → slice_index f.spare n ≤ MOST_UNITS + units
 spare_bound f from to units n limits imbalance h = omega (arith, imbalance n h, before_le to n units, limits.rooms n 0 h)
 
-fits_any : (f : Flow) (s : Step) (units : ℕ) → Admits f s units → ((n : ℕ) → n < length f.program.rooms → slice_index f.spare n + units ≤ greatest_spare) → FitsSpare f s units
+pub fits_any : (f : Flow) (s : Step) (units : ℕ) → Admits f s units → ((n : ℕ) → n < length f.program.rooms → slice_index f.spare n + units ≤ greatest_spare) → FitsSpare f s units
 fits_any f (sell_more j) units a fits = tt
 fits_any f (sell_less j) units a fits = tt
 fits_any f (spare_more n) units a fits = fits n a
@@ -58,7 +58,7 @@ falls_to_last : (u by : ℕ → ℕ) (last : ℕ) → ((n : ℕ) → n < last �
 falls_to_last u by last falls zero v e = let at = ap by e in let same : v + 0 ≡ v = omega arith in omega (arith, at, ap by same)
 falls_to_last u by last falls (suc d) v e = omega (arith, falls v (omega arith), falls_to_last u by last falls d (v + 1) (omega arith))
 
-pub augmented : (p : Priced) (from to units amount left : ℕ) (kept : ScratchView) (q : List ℕ) → IsPriced p → to < nodes p → IsSlack p.flow (slice_index p.potentials) → AreDistancesUpTo p from (slice_index kept.distances to) kept.distances → IsShortestPath p from to units kept → amount ≤ left → HasImbalance p.flow from to left → All (Takes p.flow amount) kept.path →
+pub augmented : (p : Priced) (from to units amount left : ℕ) (kept : ScratchView) (q : List ℕ) → IsPriced p → to < nodes p → IsSlack p.flow (slice_index p.potentials) → AreDistancesBelow p from (slice_index kept.distances to) kept.distances → IsShortestPath p from to units kept → amount ≤ left → HasImbalance p.flow from to left → All (Takes p.flow amount) kept.path →
     IsLiftedBy (length p.flow.program.rooms) p.potentials q (slice_index kept.distances) (slice_index kept.distances to) →
     IsSlack (pushed_along p.flow (steps_of p.flow.program kept.path) amount) (slice_index q) × HasImbalance (pushed_along p.flow (steps_of p.flow.program kept.path) amount) from to (left - amount)
 augmented p from to units amount left kept q priced to_in slack distances shortest within imbalance takes lifted_by =
@@ -89,7 +89,7 @@ augmented p from to units amount left kept q priced to_in slack distances shorte
     )
 
 -- the same for the flow after the push, and after the lift
-pub shifted : (p r g : Priced) (from to units amount left : ℕ) (kept : ScratchView) (hops : List Hop) → IsPriced p → to < nodes p → IsSlack p.flow (slice_index p.potentials) → AreDistancesUpTo p from (slice_index kept.distances to) kept.distances → IsShortestPath p from to units kept → hops ≡ kept.path → amount ≤ units → amount ≤ left → left ≤ 10 ^ 11 → HasImbalance p.flow from to left →
+pub shifted : (p r g : Priced) (from to units amount left : ℕ) (kept : ScratchView) (hops : List Hop) → IsPriced p → to < nodes p → IsSlack p.flow (slice_index p.potentials) → AreDistancesBelow p from (slice_index kept.distances to) kept.distances → IsShortestPath p from to units kept → hops ≡ kept.path → amount ≤ units → amount ≤ left → left ≤ 10 ^ 11 → HasImbalance p.flow from to left →
     r.flow ≡ pushed_along p.flow (steps_of p.flow.program hops) amount → r.potentials ≡ p.potentials → g.flow ≡ r.flow →
     IsLiftedBy (length r.flow.program.rooms) r.potentials g.potentials (slice_index kept.distances) (slice_index kept.distances to) → IsShifting p g from to (left - amount)
 shifted p r g from to units amount left kept hops priced to_in slack distances shortest hops_are fewer within small imbalance pushed_is kept_is lifted_is lifted_by =

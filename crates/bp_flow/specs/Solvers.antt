@@ -1,5 +1,5 @@
 -- What a solver keeps between calls, and what its calls change.
-use Rattle.std.specs.Prelude.{◌≡◌, ℕ, ◌+◌, ◌-◌, ◌≤◌, ◌<◌, List, length, slice_index, slice_set}
+use Rattle.std.specs.Prelude.{◌≡◌, ℕ, ◌+◌, ◌-◌, ◌≤◌, ◌<◌, Bool, if◌then◌else◌, List, length, slice_index, slice_set}
 use Rattle.bp_types.specs.Program.{Program, stay_at}
 use Rattle.bp_types.specs.Changes.{with_forecast}
 use Rattle.bp_residual.specs.Network.{Priced, IsPriced, IsSlack, IsBalanced}
@@ -23,20 +23,37 @@ pub record IsSolverOf (program : Program) (s : Solving) : Type 0 where
   pub settled : IsSettled s
   pub solves : s.flow.program ≡ program
 
--- the rooms of the nights below a night are the program's, and no other night has more than there
+-- the flow carries exactly its own rooms, on the program's stays and nights
+pub record IsCarrying (program : Program) (p : Priced) : Type 0 where
+  pub balanced : IsBalanced p.flow
+  pub stays : p.flow.program.stays ≡ program.stays
+  pub each : length p.flow.program.rooms ≡ length program.rooms
+
+-- the rooms of the nights below a night are the program's
 pub record ColdSoFar (program : Program) (night : ℕ) (p : Priced) : Type 0 where
   pub solved : IsSolvedFlow p
   pub stays : p.flow.program.stays ≡ program.stays
   pub each : length p.flow.program.rooms ≡ length program.rooms
   pub done : (n : ℕ) → n < night → slice_index p.flow.program.rooms n ≡ slice_index program.rooms n
-  pub no_more : (n : ℕ) → n < length program.rooms → slice_index p.flow.program.rooms n ≤ slice_index program.rooms n
 
--- each night from one up to another lacks so many of the program's rooms, or more
-pub record IsShortage (program : Program) (rooms : List ℕ) (from to units : ℕ) : Type 0 where
+-- how many rooms a night lacks, or (not `up`) has too many
+abbrev pub lacking : Bool → ℕ → ℕ → ℕ
+lacking up has wants = if up then wants - has else has - wants
+
+-- the same of a night by its number
+abbrev pub lack_at : Bool → List ℕ → List ℕ → ℕ → ℕ
+lack_at up has wants n = lacking up (slice_index has n) (slice_index wants n)
+
+-- each night from one up to another lacks so many of the program's rooms, or more; or has so many too many
+pub record IsShortage (program : Program) (rooms : List ℕ) (up : Bool) (from to units : ℕ) : Type 0 where
   pub some_night : from < to
   pub in_range : to ≤ length program.rooms
   pub some_units : 1 ≤ units
-  pub each : (n : ℕ) → from ≤ n → n < to → slice_index rooms n + units ≤ slice_index program.rooms n
+  pub each : (n : ℕ) → from ≤ n → n < to → units ≤ lack_at up rooms program.rooms n
+
+-- the night is past the last one, or lacks no rooms; or has none too many
+abbrev pub HasAll : Bool → List ℕ → List ℕ → ℕ → Type 0
+HasAll up wanted rooms night = night < length wanted → lack_at up rooms wanted night ≡ 0
 
 -- one stay has another forecast and another sold number, and nothing else changed
 pub record SetsDemand (old new : Priced) (stay forecast units : ℕ) : Type 0 where

@@ -1,15 +1,15 @@
-ghost use Rattle.std.specs.Prelude.{◌≡◌, ℕ, ◌+◌, ◌-◌, ◌<◌, ◌≤◌, length, slice_index};
+ghost use Rattle.std.specs.Prelude.{◌≡◌, ℕ, ◌+◌, ◌-◌, ◌<◌, ◌≤◌, false, length, slice_index};
 ghost use Rattle.bp_types.specs.declared.limits.TheConstants.{MOST_FORECAST};
-ghost use Rattle.bp_types.specs.declared.change.Change.TheVariants.{Demand};
+ghost use Rattle.bp_types.specs.declared.change.Change.TheVariants.{Rooms, Demand};
 ghost use Rattle.bp_types.specs.Program.{stay_at};
-ghost use Rattle.bp_types.specs.Changes.{changed};
+ghost use Rattle.bp_types.specs.Changes.{changed, Fits};
 ghost use Rattle.bp_residual.specs.Network.{Priced, HasImbalance, IsBalanced, IsSlack, nodes};
 ghost use Rattle.bp_flow.specs.Solvers.{IsSolvedFlow, SetsDemand, CountsSearches, difference};
 
 use crate::moves::shift;
 use bp_paths::Scratch;
 use bp_residual::Flow;
-use bp_types::Steps;
+use bp_types::{Span, Steps};
 use std::sync::ledger::Ledger;
 
 /// Sets the forecast of a stay, and how much of it is sold.
@@ -63,4 +63,24 @@ pub(crate) fn reforecast<L: Ledger>(
     } else {
         set_demand(flow, stay, value, sold);
     }
+}
+
+/// Takes as many units from the rooms of a stay's nights, from what is sold of it, and from its forecast: each night
+/// carries its rooms as before, and no residual hop appears.
+pub(crate) fn book_sold(flow: &mut Flow, span: Span, stay: u32, units: u64, forecast: u64)
+    requires stay { stay < length flow.old.flow.program.stays }
+    requires span { (stay_at flow.old.flow.program stay).span ≡ span }
+    requires rooms { Fits flow.old.flow.program (Rooms span false units) }
+    requires sold { units ≤ slice_index flow.old.flow.sell stay }
+    requires forecast { (stay_at flow.old.flow.program stay).forecast ≡ forecast }
+    requires solved { IsSolvedFlow flow.old }
+    ensures program { flow.new.flow.program ≡ changed (changed flow.old.flow.program (Rooms span false units)) (Demand stay (forecast - units)) }
+    ensures nights { length flow.new.flow.program.rooms ≡ length flow.old.flow.program.rooms }
+    ensures balanced { IsBalanced flow.new.flow }
+    ensures slack { IsSlack flow.new.flow (slice_index flow.new.potentials) }
+{
+    let _nights = flow.nights();
+    let sold = flow.sold(stay);
+    flow.move_rooms(span, false, units);
+    set_demand(flow, stay, forecast - units, sold - units);
 }

@@ -4,7 +4,8 @@ ghost use Rattle.bp_paths.specs.Paths.{far, Serves};
 ghost use Rattle.bp_flow.specs.Shift.{IsShifting, AreRaises, IsLiftedBy};
 ghost use Rattle.bp_flow.specs.Solvers.{CountsSearches};
 
-use bp_paths::{Found, Scratch, search};
+use crate::ways::walk;
+use bp_paths::{Found, Scratch, reach};
 use bp_residual::{Flow, law};
 use bp_types::Steps;
 use bp_types::limits::MOST_NODES;
@@ -62,7 +63,7 @@ fn augment<L: Ledger>(
 {
     let _nights = flow.nights();
     law::paths_exist();
-    match search(flow, from, to, scratch, steps) {
+    match reach(flow, from, to, scratch, steps) {
         Found::Reached { units } => {
             let amount = units.min(left);
             flow.push(scratch.path(), amount);
@@ -97,7 +98,13 @@ pub fn shift<L: Ledger>(
     ensures counted { CountsSearches steps.old steps.new scratch.old.served scratch.new.served units }
 {
     let mut left = units;
+    let mut start = from;
+    let mut end = to;
     while left > 0 {
-        left -= augment(flow, scratch, from, to, left, steps);
+        (start, end) = walk(flow, scratch, start, end, left);
+        if start == end {
+            return;
+        }
+        left -= augment(flow, scratch, start, end, left, steps);
     }
 }

@@ -1,4 +1,4 @@
-ghost use Rattle.std.specs.Prelude.{◌≡◌, ℕ, ◌+◌, ◌-◌, ◌*◌, ◌<◌, ◌≤◌, true, false, length, slice_index, All, IfOk};
+ghost use Rattle.std.specs.Prelude.{◌≡◌, ◌≢◌, ℕ, ◌+◌, ◌-◌, ◌*◌, ◌<◌, ◌≤◌, true, false, length, slice_index, All, IfOk, IsTrue};
 ghost use Rattle.bp_types.specs.declared.change.Change.TheVariants.{Rooms, Demand, Rate};
 ghost use Rattle.bp_types.specs.Claim.{IsCertificateOf, IsLeastCertificate};
 ghost use Rattle.bp_types.specs.Optimum.{IsOptimum};
@@ -6,17 +6,22 @@ ghost use Rattle.bp_types.specs.Program.{stay_at};
 ghost use Rattle.bp_types.specs.Changes.{changed, Fits};
 ghost use Rattle.bp_residual.specs.Network.{Priced, greatest_rate, nodes};
 ghost use Rattle.bp_flow.specs.Solving.{Solving, priced};
-ghost use Rattle.bp_flow.specs.Solvers.{ColdSoFar, IsSolvedFlow, IsSolved, IsSolverOf, CountsSearches, CountsServed, difference};
+ghost use Rattle.bp_flow.specs.Solvers.{ColdSoFar, IsSolvedFlow, IsSolved, IsSolverOf, CountsSearches, CountsServed, CountsUpTo, difference, lack_at};
+ghost use Rattle.bp_flow.specs.Rising.{repairs, rises, searches_from_nothing};
 ghost use Rattle.bp_flow.specs.Settled.{IsSettled, IsSolvable};
 
-use crate::demand::reforecast;
+use crate::demand::{book_sold, reforecast};
+use crate::guess::keep_ways;
 use crate::law;
 use crate::moves::shift;
+use crate::repairs::lacking_at;
 use crate::rooms::{add_rooms, take_rooms};
 use crate::settling::settle_flow;
 use crate::shortage::{Shortage, shortage_at};
+use crate::start::started;
 use bp_paths::Scratch;
 use bp_residual::Flow;
+use bp_simplex::Simplex;
 use bp_types::{Certificate, Instance, Memory, Span, Steps};
 use std::alloc::Global;
 use std::marker::Model;
@@ -47,6 +52,12 @@ impl Model for Solver {
 
 impl Solver {
     /// Solves an instance from nothing. The steps rise by the searches that its scratch served.
+    ///
+    /// It begins with what a network simplex found, as far as that is a flow that carries rooms of its own without
+    /// negative reduced costs, and leads those rooms to the instance's. Each search brings at least one unit to all
+    /// the nights that lack it, up to the first that lacks none, or takes one from all that have it too many; and no
+    /// start is taken that needs more than the one without rooms. So there is one search at most for each unit by
+    /// which the rooms rise from a night to the next, and the last one for the prices.
     pub fn cold<L: Ledger>(
         alloc: Global,
         instance: &Instance,
@@ -55,8 +66,9 @@ impl Solver {
         ensures solver { IfOk result (IsSolverOf instance.now) }
         ensures solvable { IfOk result (λ _. IsSolvable instance.now) }
         ensures counted { IfOk result (λ s. CountsServed steps.old steps.new 0 s.served) }
+        ensures few { CountsUpTo steps.old steps.new (searches_from_nothing instance.now) }
     {
-        let mut solver = Solver::empty(alloc, instance)?;
+        let mut solver = Solver::start(alloc, instance)?;
         for night in 0..instance.nights() {
             solver.fill(instance, night, steps);
         }
@@ -64,14 +76,18 @@ impl Solver {
         Ok(solver)
     }
 
-    /// A solver on the instance without rooms.
-    fn empty(alloc: Global, instance: &Instance) -> Result<Solver, Memory>
+    /// A solver on the stays of the instance, with rooms of its own, and with the ways that the simplex found.
+    fn start(alloc: Global, instance: &Instance) -> Result<Solver, Memory>
         ensures so_far { IfOk result (λ s. ColdSoFar instance.now 0 (priced s)) }
+        ensures few { IfOk result (λ s. repairs s.flow.program.rooms instance.now.rooms ≤ rises instance.now.rooms) }
         ensures served { IfOk result (λ s. s.served ≡ 0) }
     {
-        let flow = Flow::empty(alloc, instance.copy(alloc)?)?;
-        let _nights = flow.nights();
-        Solver::on(alloc, flow)
+        let mut simplex = Simplex::new(alloc, instance)?;
+        simplex.run();
+        let flow = started(alloc, instance, &simplex)?;
+        let mut start = Solver::on(alloc, flow)?;
+        keep_ways(&simplex, instance.nights(), &mut start.scratch);
+        Ok(start)
     }
 
     /// A solver on a flow, with memory for its searches.
@@ -85,26 +101,66 @@ impl Solver {
         Ok(Solver { flow, scratch })
     }
 
-    /// Raises the rooms of a night to those of the instance, together with nights behind it that lack some too:
-    /// units that cross many nights at once take fewer searches than night by night.
+    /// Leads the rooms of a night to those of the instance, together with nights behind it that lack some too, or
+    /// have too many: units that cross many nights at once take fewer searches than night by night.
     fn fill<L: Ledger>(&mut self, instance: &Instance, night: u32, steps: &mut Steps<L>)
         requires so_far { ColdSoFar instance.now night (priced self.old) }
         requires in_range { night < length instance.now.rooms }
         ensures so_far { ColdSoFar instance.now (night + 1) (priced self.new) }
-        ensures counted { CountsServed steps.old steps.new self.old.served self.new.served }
+        ensures falls { repairs self.new.flow.program.rooms instance.now.rooms ≤ repairs self.old.flow.program.rooms instance.now.rooms }
+        ensures counted { CountsSearches steps.old steps.new self.old.served self.new.served (repairs self.old.flow.program.rooms instance.now.rooms - repairs self.new.flow.program.rooms instance.now.rooms) }
     {
-        while self.rooms(night) < instance.rooms(night) {
-            let Shortage { to, units } = shortage_at(self, instance, night);
-            self.raise(Span { from: night, to }, units, steps);
+        while self.rooms(night) != instance.rooms(night) {
+            self.fill_shortage(instance, night, steps);
         }
     }
 
-    /// A copy, which goes its own way from here on, and has made no search.
+    /// Moves the units of a shortage that begins at the night.
+    fn fill_shortage<L: Ledger>(&mut self, instance: &Instance, night: u32, steps: &mut Steps<L>)
+        requires so_far { ColdSoFar instance.now night (priced self.old) }
+        requires in_range { night < length instance.now.rooms }
+        requires unlike { slice_index self.old.flow.program.rooms night ≢ slice_index instance.now.rooms night }
+        ensures so_far { ColdSoFar instance.now night (priced self.new) }
+        ensures nearer { difference (slice_index self.new.flow.program.rooms night) (slice_index instance.now.rooms night) < difference (slice_index self.old.flow.program.rooms night) (slice_index instance.now.rooms night) }
+        ensures falls { repairs self.new.flow.program.rooms instance.now.rooms ≤ repairs self.old.flow.program.rooms instance.now.rooms }
+        ensures counted { CountsSearches steps.old steps.new self.old.served self.new.served (repairs self.old.flow.program.rooms instance.now.rooms - repairs self.new.flow.program.rooms instance.now.rooms) }
+    {
+        let up = self.rooms(night) < instance.rooms(night);
+        let Shortage { to, units } = shortage_at(self, instance, up, night);
+        self.move_rooms(Span { from: night, to }, up, units, steps);
+    }
+
+    /// How many rooms a night lacks of the instance's, or (not `up`) has too many.
+    pub(crate) fn lacking(&self, instance: &Instance, up: bool, night: u32) -> u64
+        requires each { length self.now.flow.program.rooms ≡ length instance.now.rooms }
+        requires in_range { night < length instance.now.rooms }
+        ensures { result ≡ lack_at up self.now.flow.program.rooms instance.now.rooms night }
+    {
+        lacking_at(&self.flow, instance, up, night)
+    }
+
+    /// Adds (`up`) or takes away so many units on each night of a span.
+    fn move_rooms<L: Ledger>(&mut self, span: Span, up: bool, units: u64, steps: &mut Steps<L>)
+        requires { Fits self.old.flow.program (Rooms span up units) }
+        ensures program { self.new.flow.program ≡ changed self.old.flow.program (Rooms span up units) }
+        ensures solved { IsSolved self.new }
+        ensures counted { CountsSearches steps.old steps.new self.old.served self.new.served units }
+    {
+        if up {
+            self.raise(span, units, steps);
+        } else {
+            self.lower(span, units, steps);
+        }
+    }
+
+    /// A copy, which goes its own way from here on, and has made no search. It takes the kept ways along.
     pub fn copy(&self, alloc: Global) -> Result<Solver, Memory>
         ensures same { IfOk result (λ s. priced s ≡ priced self.now) }
         ensures served { IfOk result (λ s. s.served ≡ 0) }
     {
-        Solver::on(alloc, self.flow.copy(alloc)?)
+        let mut copy = Solver::on(alloc, self.flow.copy(alloc)?)?;
+        copy.scratch.keep_ways_of(&self.scratch);
+        Ok(copy)
     }
 
     /// Adds so many units on each night of a span.
@@ -152,6 +208,32 @@ impl Solver {
         let _nights = self.flow.nights();
     }
 
+    /// Takes units from the rooms of a span and sets the forecast of a stay, where that is a booking of a stay that is
+    /// sold: as many units less of the stay on its own span. Then no unit moves, so it makes no search. Answers whether
+    /// it was one; else nothing changes.
+    pub fn book(&mut self, span: Span, units: u64, stay: u32, value: u64) -> bool
+        requires rooms { Fits self.old.flow.program (Rooms span false units) }
+        requires stay { stay < length self.old.flow.program.stays }
+        ensures made { IsTrue result → self.new.flow.program ≡ changed (changed self.old.flow.program (Rooms span false units)) (Demand stay value) }
+        ensures not_made { result ≡ false → self.new ≡ self.old }
+        ensures solved { IsSolved self.new }
+        ensures solvable { IsSolvable self.new.flow.program }
+        ensures served { self.new.served ≡ self.old.served }
+    {
+        law::solved_programs_are_solvable();
+        let _nights = self.flow.nights();
+        let terms = self.flow.stay(stay);
+        if terms.span != span
+            || self.flow.sold(stay) < units
+            || terms.forecast.saturating_sub(units) != value
+        {
+            return false;
+        }
+        book_sold(&mut self.flow, span, stay, units, terms.forecast);
+        let _nights = self.flow.nights();
+        true
+    }
+
     /// Sets the rate of a stay, in minor units of money.
     pub fn reprice<L: Ledger>(&mut self, stay: u32, value: u64, steps: &mut Steps<L>)
         requires { Fits self.old.flow.program (Rate stay value) }
@@ -180,8 +262,8 @@ impl Solver {
         let _nights = self.flow.nights();
     }
 
-    /// Makes the prices the least optimal ones, by one search. A body that tests whether they are, in place of
-    /// that search, keeps to `counted` too.
+    /// Makes the prices the least optimal ones. Where the kept ways still lead each node to the last one at no cost
+    /// they are, which takes a look at each node and no search; else it takes one search.
     pub fn settle<L: Ledger>(&mut self, steps: &mut Steps<L>)
         ensures flow { self.new.flow ≡ self.old.flow }
         ensures settled { IsSettled self.new }

@@ -10,8 +10,6 @@ mod group_quote;
 pub mod law;
 mod quoting;
 mod rooms;
-#[cfg(test)]
-mod tests;
 
 pub use error::QuoteError;
 pub use group_quote::GroupQuote;

@@ -1,9 +1,10 @@
 ghost use Rattle.std.specs.Prelude.{◌≡◌, ℕ, ◌+◌, ◌-◌, ◌*◌, ◌^◌, ◌<◌, ◌≤◌, [], length, replicate, slice_index, All, drop, false, IfOk};
 ghost use Rattle.bp_residual.specs.Network.{Priced, IsSlack, IsPriced, Admits, step_of, steps_of, arcs, nodes};
 ghost use Rattle.bp_paths.specs.Labels.{AreLabelsSoFar, IsTracedPath};
-ghost use Rattle.bp_paths.specs.Paths.{far, ScratchView, Serves, AreDistancesTo, IsFound, distance_of, least_room};
+ghost use Rattle.bp_paths.specs.Paths.{far, ScratchView, Serves, AreDistancesTo, IsFound, distance_of, least_room, IsReached};
 
-use crate::labels::Labels;
+use crate::labels::{Labels, Notes};
+use crate::mended::mended;
 use bp_residual::{Flow, Hop};
 use bp_types::{Memory, Steps};
 use std::alloc::Global;
@@ -19,6 +20,26 @@ pub enum Found {
     Unreached,
 }
 
+/// For each node a hop on its way to one node, and a rank that falls along the ways: what the last search to one node
+/// kept. These are hints, and nothing is claimed of them: who uses them tests them.
+#[derive(Drop)]
+struct Ways {
+    hops: Vec<Hop>,
+    ranks: Vec<u32>,
+}
+
+impl Ways {
+    /// Keeps other hops and ranks.
+    fn keep(&mut self, hops: &[Hop], ranks: &[u32]) {
+        for node in 0..hops.len().min(self.hops.len()) {
+            self.hops[node] = hops[node];
+        }
+        for node in 0..ranks.len().min(self.ranks.len()) {
+            self.ranks[node] = ranks[node];
+        }
+    }
+}
+
 /// The memory of searches: the distances that the last one found, and its path.
 ///
 /// Contracts see a number for each node, where the greatest u128 stands for none, a list of hops, and how many
@@ -31,6 +52,8 @@ pub struct Scratch {
     start: usize,
     /// How many searches used this memory; it stays at the greatest number.
     served: u64,
+    /// Hints, of which no contract speaks: the ways of the last search to one node.
+    ways: Ways,
 }
 
 impl Model for Scratch {
@@ -59,8 +82,12 @@ impl Scratch {
         let kept = vec![in alloc; u128::MAX; size]?;
         let rank = vec![in alloc; 0u32; size]?;
         let via = vec![in alloc; none; size]?;
-        let queue = vec![in alloc; 0u32; size]?;
+        let notes = Notes::new(alloc, size)?;
         let slots = vec![in alloc; none; size]?;
+        let ways = Ways {
+            hops: vec![in alloc; none; size]?,
+            ranks: vec![in alloc; 0u32; size]?,
+        };
         Ok(Scratch {
             labels: Labels {
                 from: 0,
@@ -68,12 +95,12 @@ impl Scratch {
                 kept,
                 rank,
                 via,
-                queue,
-                waiting: 0,
+                notes,
             },
             slots,
             start: size,
             served: 0,
+            ways,
         })
     }
 
@@ -88,6 +115,34 @@ impl Scratch {
         } else {
             None
         }
+    }
+
+    /// The hop of each node on its way to the last one, as the last search there kept it: a hint.
+    pub fn ways(&self) -> &[Hop] {
+        &self.ways.hops
+    }
+
+    /// Keeps another hop and another rank of a node: a hint.
+    pub fn keep_way(&mut self, node: u32, hop: Hop, rank: u32)
+        ensures { self.new ≡ self.old }
+    {
+        let place = node as usize;
+        if place < self.ways.hops.len() && place < self.ways.ranks.len() {
+            self.ways.hops[place] = hop;
+            self.ways.ranks[place] = rank;
+        }
+    }
+
+    /// Keeps the ways of another scratch: hints.
+    pub fn keep_ways_of(&mut self, other: &Scratch)
+        ensures { self.new ≡ self.old }
+    {
+        self.ways.keep(&other.ways.hops, &other.ways.ranks);
+    }
+
+    /// A rank of each node that falls along these hops: a hint.
+    pub fn ranks(&self) -> &[u32] {
+        &self.ways.ranks
     }
 
     /// The path that the last search found.
@@ -171,8 +226,42 @@ pub fn search<L: Ledger>(
     Found::Reached { units }
 }
 
-/// Finds the distances by reduced cost of all nodes to one node: the same method against the direction of the hops,
-/// over all nodes. Of an earlier search the scratch keeps nothing.
+/// Finds a shortest residual path by the same method, and ends as soon as the target is closed: the distances are
+/// exact below the target's, and no others are less. Nodes that are as near as the target stay open, so where many
+/// are, as under equal rates, most of the network is never looked at.
+pub fn reach<L: Ledger>(
+    flow: &Flow,
+    from: u32,
+    to: u32,
+    scratch: &mut Scratch,
+    steps: &mut Steps<L>,
+) -> Found
+    requires slack { IsSlack flow.now.flow (slice_index flow.now.potentials) }
+    requires from { from < nodes flow.now }
+    requires to { to < nodes flow.now }
+    requires size { length scratch.old.distances ≡ nodes flow.now }
+    ensures found { IsReached flow.now from to scratch.new result }
+    ensures size { length scratch.new.distances ≡ nodes flow.now }
+    ensures counted { steps.new ≡ steps.old + 1 }
+    ensures served { Serves scratch.old.served scratch.new.served 1 }
+{
+    steps.tick();
+    scratch.served = one_more(scratch.served);
+    let _nights = flow.nights();
+    scratch.labels.begin(flow, false, from);
+    scratch.labels.close_to(flow, to);
+    scratch.start = scratch.slots.len();
+    if scratch.labels.kept[to as usize] == u128::MAX {
+        return Found::Unreached;
+    }
+    let (start, units) = path_to(flow, to, &scratch.labels, &mut scratch.slots);
+    scratch.start = start;
+    Found::Reached { units }
+}
+
+/// Finds the distances by reduced cost of all nodes to one node: by kept ways that are mended, where a test shows that
+/// they are right; else by the same method against the direction of the hops, over all nodes. Either way it counts as
+/// one search. Of an earlier search the scratch keeps nothing but the ways, and these are then the last hops.
 pub fn search_to<L: Ledger>(flow: &Flow, to: u32, scratch: &mut Scratch, steps: &mut Steps<L>)
     requires slack { IsSlack flow.now.flow (slice_index flow.now.potentials) }
     requires to { to < nodes flow.now }
@@ -184,7 +273,18 @@ pub fn search_to<L: Ledger>(flow: &Flow, to: u32, scratch: &mut Scratch, steps: 
     steps.tick();
     scratch.served = one_more(scratch.served);
     let _nights = flow.nights();
+    scratch.start = scratch.slots.len();
+    if mended(
+        flow,
+        to,
+        &mut scratch.labels.kept,
+        &mut scratch.ways.hops,
+        &mut scratch.ways.ranks,
+        &mut scratch.labels.rank,
+    ) {
+        return;
+    }
     scratch.labels.begin(flow, true, to);
     scratch.labels.close_until(flow, true, None);
-    scratch.start = scratch.slots.len();
+    scratch.ways.keep(&scratch.labels.via, &scratch.labels.rank);
 }

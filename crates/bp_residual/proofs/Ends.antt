@@ -7,11 +7,12 @@ use Rattle.bp_types.specs.declared.stay.Stay.{Stay}
 use Rattle.bp_types.specs.declared.change.Change.{Change}
 use Rattle.bp_types.specs.declared.change.Change.TheVariants.{Rooms, Demand, Rate}
 use Rattle.bp_types.specs.Program.{Program, no_stay, stay_at}
+use Rattle.bp_types.specs.Limits.{IsWithinLimits}
 use Rattle.bp_types.specs.Changes.{changed, with_forecast, with_rate}
 use Rattle.bp_types.proofs.RoomLemmas.{length-rooms_moved}
 use Rattle.bp_residual.specs.declared.hop.Hop.{Hop}
 use Rattle.bp_residual.specs.Network.{sell_more, sell_less, spare_more, spare_less, tail, step_of, arcs}
-use Rattle.bp_residual.specs.Index.{Shape, AreEnds, AreHopsOf, AreHopsAt, LeavesAt, end_at, tail_at}
+use Rattle.bp_residual.specs.Index.{Shape, AreEnds, AreNodes, AreHopsOf, AreHopsAt, LeavesAt, end_at, tail_at}
 
 -- programs with the same nights, stays and spans have the same ends
 same_ends : (p q : Program) (s : Shape) → length q.rooms ≡ length p.rooms → length q.stays ≡ length p.stays → ((j : ℕ) → j < length p.stays → (stay_at q j).span ≡ (stay_at p j).span) → AreEnds p s → AreEnds q s
@@ -76,3 +77,19 @@ hops_by_ends p s v hops ends found =
       leave = All-weaker (LeavesAt s.ends v) (λ h. (h.arc < arcs p) × (tail p (step_of p h) ≡ v)) (λ h l. let in_range : h.arc < arcs p = omega (arith, l.0, ends.each) in (in_range, tail_by_ends p s h.arc h.forward ends in_range ∙ l.1)) hops found.leave;
       found = λ h in_range leaves. found.found h (omega (arith, in_range, ends.each)) (sym (tail_by_ends p s h.arc h.forward ends in_range) ∙ leaves);
     }
+
+-- the ends of the arcs are nodes
+pub ends_are_nodes : (p : Program) (s : Shape) → IsWithinLimits p → AreEnds p s → AreNodes s.ends (length p.rooms + 1)
+ends_are_nodes p s limits ends k h =
+    elim (cases_lt k (length p.stays)) [
+      | inl stay ↦
+          let e = ends.stay k stay in
+          let range = limits.spans k no_stay stay in
+          (omega (arith, ap (λ (z : Span). z.from) e, range.0, range.1), omega (arith, ap (λ (z : Span). z.to) e, range.1))
+      | inr night ↦
+          let n = k - length p.stays in
+          let place : length p.stays + n ≡ k = omega arith in
+          let n_in : n < length p.rooms = omega (arith, h, ends.each) in
+          let e : end_at s.ends k ≡ record { from = n; to = n + 1 } = ap (end_at s.ends) (sym place) ∙ ends.night n n_in in
+          (omega (arith, ap (λ (z : Span). z.from) e, n_in), omega (arith, ap (λ (z : Span). z.to) e, n_in))
+    ]

@@ -9,6 +9,7 @@ pub mod LiftLoop
 pub mod PushLoop
 pub mod Empty
 pub mod Changed
+pub mod Counting
 pub mod Indexed
 pub mod Ends
 pub mod Shortest

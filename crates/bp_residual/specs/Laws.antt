@@ -94,3 +94,19 @@ abbrev pub LeastPricesAreWithinRates : Type 0
 LeastPricesAreWithinRates =
     (p : Program) (prices : List ℕ) (limit : ℕ) →
     IsWithinLimits p → AreLeastPrices p prices → ((j : ℕ) → j < length p.stays → (stay_at p j).rate ≤ limit) → All (λ x. x ≤ limit) prices
+
+-- a push of all units over one step of reduced cost 0 moves the node that they come from
+abbrev pub PushMovesTheStart : Type 0
+PushMovesTheStart =
+    (f : Flow) (u : ℕ → ℕ) (s : Step) (to units : ℕ) →
+    IsWithinLimits f.program → IsFlow f → IsSlack f u → IsTight f.program u s → Admits f s units →
+    HasImbalance f (tail f.program s) to units →
+    IsFlow (pushed f s units) × IsSlack (pushed f s units) u × HasImbalance (pushed f s units) (head f.program s) to units
+
+-- and likewise the node that they go to
+abbrev pub PushMovesTheEnd : Type 0
+PushMovesTheEnd =
+    (f : Flow) (u : ℕ → ℕ) (s : Step) (from units : ℕ) →
+    IsWithinLimits f.program → IsFlow f → IsSlack f u → IsTight f.program u s → Admits f s units →
+    HasImbalance f from (head f.program s) units →
+    IsFlow (pushed f s units) × IsSlack (pushed f s units) u × HasImbalance (pushed f s units) from (tail f.program s) units

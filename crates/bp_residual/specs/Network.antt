@@ -306,3 +306,10 @@ pub record IsEmptyFlowOf (program : Program) (p : Priced) : Type 0 where
   pub empty : IsEmptyFlow p (greatest_rate program)
   pub stays : p.flow.program.stays ≡ program.stays
   pub nights : length p.flow.program.rooms ≡ length program.rooms
+
+-- the step has room for a unit and reduced cost 0, and leads from one node to another
+pub record IsFreeStep (p : Priced) (s : Step) (from to : ℕ) : Type 0 where
+  pub admits : Admits p.flow s 1
+  pub tight : IsTight p.flow.program (slice_index p.potentials) s
+  pub leaves : from ≡ tail p.flow.program s
+  pub reaches : to ≡ head p.flow.program s

@@ -1,5 +1,5 @@
 ghost use Rattle.std.specs.Prelude.{◌≡◌, ℕ, ◌+◌, ◌-◌, ◌*◌, ◌^◌, ◌<◌, ◌≤◌, length, slice_index, slice_set, IfOk, IfSome, MatchOption, ◌↔◌, if◌then◌else◌, All, map, neg_ℤ, pos};
-ghost use Rattle.bp_residual.specs.Network.{Priced, IsPriced, IsLifted, step_of, steps_of, arcs, tail, head, Admits, IsCost, prices_of, IsEmptyFlowOf, greatest_rate, forward_step, capacity, carried_by, gain, with_program, with_rooms, with_sold, room_of, IsSlack, pushed, sell_more, sell_less, spare_more, spare_less, greatest_spare, FitsSpare, Takes, NamesArcsOnce, pushed_along};
+ghost use Rattle.bp_residual.specs.Network.{Priced, IsPriced, IsLifted, step_of, steps_of, arcs, tail, head, Admits, IsCost, IsFreeStep, prices_of, IsEmptyFlowOf, greatest_rate, forward_step, capacity, carried_by, gain, with_program, with_rooms, with_sold, room_of, IsSlack, pushed, sell_more, sell_less, spare_more, spare_less, greatest_spare, FitsSpare, Takes, NamesArcsOnce, pushed_along};
 ghost use Rattle.bp_residual.specs.Index.{AreHopsAt};
 ghost use Rattle.bp_types.specs.Program.{worth, stay_at};
 ghost use Rattle.std.specs.List.{range_with_len};
@@ -199,6 +199,14 @@ impl Flow {
         self.sell[stay as usize]
     }
 
+    /// The spare rooms of a night.
+    pub fn spare(&self, night: u32) -> u64
+        requires { night < length self.now.flow.program.rooms }
+        ensures { result ≡ slice_index self.now.flow.spare night }
+    {
+        self.spare[night as usize]
+    }
+
     /// The node that the hop leaves.
     pub fn tail(&self, hop: Hop) -> u32
         requires { hop.arc < arcs self.now.flow.program }
@@ -271,6 +279,63 @@ impl Flow {
             } else {
                 None
             }
+        }
+    }
+
+    /// The ends of a stay's hop, if it has room for a unit and reduced cost 0.
+    fn stay_way(&self, stay: u32, forward: bool) -> Option<(u32, u32)>
+        requires { stay < length self.now.flow.program.stays }
+        ensures { IfSome result (λ e. IsFreeStep self.now (if forward then sell_more stay else sell_less stay) e.0 e.1) }
+    {
+        let terms = self.stay(stay);
+        let sold = self.sold(stay);
+        let Span { from, to } = terms.span;
+        let left = self.level(from);
+        let right = self.level(to).saturating_add(terms.rate);
+        if left != right || left == u64::MAX {
+            return None;
+        }
+        if forward {
+            if terms.forecast > sold {
+                return Some((from, to));
+            }
+        } else {
+            if sold > 0 {
+                return Some((to, from));
+            }
+        }
+        None
+    }
+
+    /// The ends of a night's hop, if it has room for a unit and reduced cost 0.
+    fn night_way(&self, night: u32, forward: bool) -> Option<(u32, u32)>
+        requires { night < length self.now.flow.program.rooms }
+        ensures { IfSome result (λ e. IsFreeStep self.now (if forward then spare_more night else spare_less night) e.0 e.1) }
+    {
+        let place = night as usize;
+        if self.potentials[place] != self.potentials[place + 1] {
+            return None;
+        }
+        if forward {
+            return Some((night, night + 1));
+        }
+        if self.spare[place] > 0 {
+            return Some((night + 1, night));
+        }
+        None
+    }
+
+    /// The node that a hop leaves and the one that it reaches, if it has room for a unit and reduced cost 0. It says in
+    /// one look what `room`, `reduced_cost`, `tail` and `head` say in four.
+    pub fn free_way(&self, hop: Hop) -> Option<(u32, u32)>
+        requires { hop.arc < arcs self.now.flow.program }
+        ensures { IfSome result (λ e. IsFreeStep self.now (step_of self.now.flow.program hop) e.0 e.1) }
+    {
+        let stays = self.instance.stays();
+        if hop.arc < stays {
+            self.stay_way(hop.arc, hop.forward)
+        } else {
+            self.night_way(hop.arc - stays, hop.forward)
         }
     }
 

@@ -3,7 +3,7 @@
 //! Sources: complementary slackness and successive shortest paths are standard results on linear programs
 //! and minimum-cost flows.
 
-ghost use Rattle.bp_residual.specs.Laws.{SlackFlowsAreOptimal, OptimalPricesAreSlack, PushKeepsSlack, LiftKeepsSlack, LimitKeepsSlack, PathsExist, GrowthBoundsPaths, ShortestPathsBecomeTight, PushMovesImbalance, SettledPricesAreLeast, LeastPricesAreWithinRates};
+ghost use Rattle.bp_residual.specs.Laws.{SlackFlowsAreOptimal, OptimalPricesAreSlack, PushKeepsSlack, LiftKeepsSlack, LimitKeepsSlack, PathsExist, GrowthBoundsPaths, ShortestPathsBecomeTight, PushMovesImbalance, PushMovesTheStart, PushMovesTheEnd, SettledPricesAreLeast, LeastPricesAreWithinRates};
 
 /// Complementary slackness, one way: where no residual step has a negative reduced cost, the allocation of
 /// a balanced flow is worth the bound of the prices.
@@ -59,4 +59,14 @@ pub fn settled_prices_are_least()
 /// No least price is above a limit that no rate exceeds.
 pub fn least_prices_are_within_rates()
     ensures { LeastPricesAreWithinRates }
+{}
+
+/// A push of all units over a step of reduced cost 0 moves the node that they come from.
+pub fn push_moves_the_start()
+    ensures { PushMovesTheStart }
+{}
+
+/// And likewise the node that they go to.
+pub fn push_moves_the_end()
+    ensures { PushMovesTheEnd }
 {}

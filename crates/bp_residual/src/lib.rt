@@ -13,8 +13,6 @@ pub mod law;
 mod lift;
 mod network;
 mod rooms;
-#[cfg(test)]
-mod tests;
 
 pub use arc::ArcView;
 pub use flow::Flow;

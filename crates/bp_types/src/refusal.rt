@@ -13,9 +13,9 @@ use thiserror::Error;
 pub enum InstanceError {
     #[error("there is no night")]
     NoNights,
-    #[error("there are more than 400 nights")]
+    #[error("there are more than {most} nights", most = MOST_NIGHTS)]
     TooManyNights,
-    #[error("there are more than 4000 stays")]
+    #[error("there are more than {most} stays", most = MOST_STAYS)]
     TooManyStays,
     /// More than 1,000,000 units on this night; of a house, more than 10,000 rooms.
     #[error("night {night} has too many rooms")]
@@ -24,10 +24,10 @@ pub enum InstanceError {
     #[error("stay {stay} is not within the nights")]
     SpanOut { stay: u32 },
     /// The rate is 0, or above 1,000,000,000.
-    #[error("the rate of stay {stay} is outside 1 to 1000000000")]
+    #[error("the rate of stay {stay} is outside 1 to {most}", most = MOST_RATE)]
     Rate { stay: u32 },
     /// The forecast is above 1,000,000 units.
-    #[error("the forecast of stay {stay} is above 1000000")]
+    #[error("the forecast of stay {stay} is above {most}", most = MOST_FORECAST)]
     Forecast { stay: u32 },
 }
 

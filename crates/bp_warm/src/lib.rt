@@ -7,7 +7,5 @@
 
 pub mod law;
 mod restart;
-#[cfg(test)]
-mod tests;
 
 pub use restart::catch_up;

@@ -1,8 +1,8 @@
-ghost use Rattle.std.specs.Prelude.{◌≡◌, ◌+◌};
+ghost use Rattle.std.specs.Prelude.{◌≡◌, ◌+◌, ◌<◌, ◌≤◌, length, drop};
 ghost use Rattle.bp_types.specs.Changes.{changed, changed_by_all, Fits, FitInTurn};
 ghost use Rattle.bp_flow.specs.Settled.{IsSettled, IsSolvable};
 ghost use Rattle.bp_flow.specs.Solvers.{CountsSearches, IsSolved};
-ghost use Rattle.bp_warm.specs.Turns.{units_moved, units_moved_by_all};
+ghost use Rattle.bp_warm.specs.Turns.{IsOnWay, moved_so_far, units_moved, units_moved_by_all};
 
 use bp_flow::Solver;
 use bp_types::{Change, Steps};
@@ -20,10 +20,37 @@ pub fn catch_up<L: Ledger>(solver: &mut Solver, changes: &[Change], steps: &mut 
     ensures solvable { IsSolvable solver.new.flow.program }
     ensures counted { CountsSearches steps.old steps.new solver.old.served solver.new.served (units_moved_by_all solver.old.flow.program changes.now + 1) }
 {
-    for change in changes {
-        make(solver, *change, steps);
+    let mut made = 0;
+    while made < changes.len() {
+        made += make_next(solver, &changes[made..], steps);
     }
     solver.settle(steps);
+}
+
+/// Makes the first of some changes, or the first two at once where they are a booking of a stay that is sold: that
+/// moves no unit, where the two apart would move the stay's units away and back. Answers how many it made.
+fn make_next<L: Ledger>(solver: &mut Solver, left: &[Change], steps: &mut Steps<L>) -> usize
+    requires fit { FitInTurn solver.old.flow.program left.now }
+    requires some { 0 < length left.now }
+    ensures made { (1 ≤ result) × (result ≤ length left.now) }
+    ensures on_way { IsOnWay solver.old.flow.program left.now solver.new.flow.program (drop result left.now) }
+    ensures counted { CountsSearches steps.old steps.new solver.old.served solver.new.served (moved_so_far solver.old.flow.program left.now solver.new.flow.program (drop result left.now)) }
+{
+    if let [
+        Change::Rooms {
+            span,
+            up: false,
+            units,
+        },
+        Change::Demand { stay, value },
+        ..
+    ] = left
+        && solver.book(*span, *units, *stay, *value)
+    {
+        return 2;
+    }
+    make(solver, left[0], steps);
+    1
 }
 
 /// Makes one change.

@@ -14,4 +14,4 @@ unreachable-requires g c =
 pub returns-clause-shifting : goal.returns-clause-shifting
 returns-clause-shifting g c =
     let amount_is : c.min-amount.result ≡ min c.in-Reached.units c.args.left = search rules in
-    shifted c.args.flow.now c.push.new.self c.lift_by_distances.new.flow c.args.from c.args.to c.in-Reached.units c.min-amount.result c.args.left c.search.new.scratch c.path.result.now c.nights-nights.ensures.priced c.requires.to c.requires.slack c.in-Reached.ensures.found.1 c.in-Reached.ensures.found.0 c.path.ensures (omega (arith, amount_is)) (omega (arith, amount_is)) c.requires.few c.requires.imbalance c.push.ensures.flow c.push.ensures.potentials c.lift_by_distances.ensures.flow c.lift_by_distances.ensures.lifted
+    shifted c.args.flow.now c.push.new.self c.lift_by_distances.new.flow c.args.from c.args.to c.in-Reached.units c.min-amount.result c.args.left c.reach.new.scratch c.path.result.now c.nights-nights.ensures.priced c.requires.to c.requires.slack c.in-Reached.ensures.found.1 c.in-Reached.ensures.found.0 c.path.ensures (omega (arith, amount_is)) (omega (arith, amount_is)) c.requires.few c.requires.imbalance c.push.ensures.flow c.push.ensures.potentials c.lift_by_distances.ensures.flow c.lift_by_distances.ensures.lifted

@@ -47,5 +47,5 @@ returns-clause-found g c =
     let items : (with_items c.scratch.inside.slots c.path_to-start.new.slots).items ≡ c.path_to-start.new.slots = with_items_is c.scratch.inside.slots c.path_to-start.new.slots slots_len in
     let served : ℕ = c.one_more-scratch-inside.result in
     let R : List Hop → Type 0 = λ hs. IsShortestPath c.args.flow.now c.args.from c.args.to c.path_to-start.result.1 (record { distances = kept; path = drop c.path_to-start.result.0 hs; served = served }) in
-    let found = is_shortest c.args.flow.now c.args.from c.args.to c.path_to-start.result.1 served kept rank path near d (subst Q from_is c.path_to-start.ensures.path) c.path_to-start.ensures.admits c.path_to-start.ensures.some c.path_to-start.ensures.least in
+    let found = is_shortest c.args.flow.now c.args.from c.args.to c.path_to-start.result.1 served kept rank path near d.start d.grows (subst Q from_is c.path_to-start.ensures.path) c.path_to-start.ensures.admits c.path_to-start.ensures.some c.path_to-start.ensures.least in
     (subst R (sym items) found, d)

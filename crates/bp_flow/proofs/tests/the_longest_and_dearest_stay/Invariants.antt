@@ -1,4 +1,0 @@
-use Rattle.bp_flow.proofs.tests.the_longest_and_dearest_stay.Given as goal
-
-abbrev pub ghosts-solved : goal.ghosts-solved
-ghosts-solved g a = record { name = a.blank.name; parts = a.blank.parts }

@@ -1,4 +1,0 @@
-use Rattle.bp_flow.proofs.tests.the_optimum_without_settling.Given as goal
-
-abbrev pub ghosts-valued : goal.ghosts-valued
-ghosts-valued g a = record { name = a.blank.name; parts = a.blank.parts }

@@ -1,0 +1,5 @@
+use Rattle.bp_residual.proofs.Augment.{push_moves_the_start}
+use Rattle.bp_residual.proofs.law.push_moves_the_start.Goals as goal
+
+pub returns : goal.returns
+returns c = push_moves_the_start

@@ -1,0 +1,4 @@
+use Rattle.bp_solver_tests.proofs.warm.restarts_after_one_change.Given as goal
+
+abbrev pub ghosts-restarted : goal.ghosts-restarted
+ghosts-restarted g a = record { name = a.blank.name; parts = a.blank.parts }

@@ -1,4 +1,0 @@
-use Rattle.bp_warm.proofs.tests.restarts_after_one_change.Given as goal
-
-abbrev pub ghosts-restarted : goal.ghosts-restarted
-ghosts-restarted g a = record { name = a.blank.name; parts = a.blank.parts }

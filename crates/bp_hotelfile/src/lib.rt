@@ -10,8 +10,6 @@ mod key;
 pub mod law;
 mod nights;
 mod settings;
-#[cfg(test)]
-mod tests;
 mod tree;
 
 pub use error::{DateError, HotelError, HotelRefusal};

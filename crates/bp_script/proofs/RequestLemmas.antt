@@ -28,7 +28,7 @@ use Rattle.bp_types.specs.declared.limits.TheConstants.{MOST_SESSIONS}
 use Rattle.bp_script.specs.declared.verb.Verb.{Verb}
 use Rattle.bp_script.specs.declared.verb.Verb.TheVariants as verb
 use Rattle.bp_script.specs.Verbs.{verb_in}
-use Rattle.bp_script.specs.Commands.{stay_in, number_within, nights_in, night_in, book_in, cancel_in, reforecast_in, reprice_in, resize_in, group_in, item_of, nights_of, rooms_of, amount_of, command_in}
+use Rattle.bp_script.specs.Commands.{stay_in, number_within, nights_in, night_in, book_in, cancel_in, reforecast_in, reprice_in, resize_in, group_in, item_cell, nights_cell, rooms_cell, amount_cell, command_in}
 use Rattle.bp_script.specs.Scripts.{session_of, session_in, room_in, request_in}
 
 -- what was passed, where what comes after it was passed
@@ -148,12 +148,12 @@ module _ (h : Inn) (season : Season) (codes : List (List ℕ)) (nights : length 
 
   -- the command of a row keeps its limits
   command_fits : (line : ℕ) (row : Record) (v : Verb) (c : Command) → command_in season codes line row v ≡ Ok c → Fits h c
-  command_fits line row verb.Book c e = book_fits line (item_of row) c e
-  command_fits line row verb.Cancel c e = cancel_fits line (item_of row) c e
-  command_fits line row verb.Reforecast c e = reforecast_fits line (item_of row) (amount_of row) c e
-  command_fits line row verb.Reprice c e = reprice_fits line (item_of row) (amount_of row) c e
-  command_fits line row verb.Resize c e = resize_fits line (item_of row) (rooms_of row) c e
-  command_fits line row verb.Group c e = group_fits line (night_of season (item_of row)) (nights_of row) (rooms_of row) (amount_of row) c e
+  command_fits line row verb.Book c e = book_fits line (item_cell row) c e
+  command_fits line row verb.Cancel c e = cancel_fits line (item_cell row) c e
+  command_fits line row verb.Reforecast c e = reforecast_fits line (item_cell row) (amount_cell row) c e
+  command_fits line row verb.Reprice c e = reprice_fits line (item_cell row) (amount_cell row) c e
+  command_fits line row verb.Resize c e = resize_fits line (item_cell row) (rooms_cell row) c e
+  command_fits line row verb.Group c e = group_fits line (night_of season (item_cell row)) (nights_cell row) (rooms_cell row) (amount_cell row) c e
 
   -- a request's command keeps its limits
   pub request_fits : (before : ℕ) (row : Record) (r : Request) → request_in season codes before row ≡ Ok r → IsTrue (is_command_in_range h r.command)

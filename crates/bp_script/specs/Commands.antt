@@ -75,24 +75,24 @@ group_in line total arrival nights rooms amount =
     Ok (Group span rooms amount))))))
 
 -- the cells of a row behind its session and its verb
-abbrev pub item_of : Record → List ℕ
-item_of row = slice_index_or row 2 []
+abbrev pub item_cell : Record → List ℕ
+item_cell row = slice_index_or row 2 []
 
-abbrev pub nights_of : Record → List ℕ
-nights_of row = slice_index_or row 3 []
+abbrev pub nights_cell : Record → List ℕ
+nights_cell row = slice_index_or row 3 []
 
-abbrev pub rooms_of : Record → List ℕ
-rooms_of row = slice_index_or row 4 []
+abbrev pub rooms_cell : Record → List ℕ
+rooms_cell row = slice_index_or row 4 []
 
-abbrev pub amount_of : Record → List ℕ
-amount_of row = slice_index_or row 5 []
+abbrev pub amount_cell : Record → List ℕ
+amount_cell row = slice_index_or row 5 []
 
 -- the command of a row with a verb; the cells that the verb does not use are not read
 abbrev pub command_in : Season → List (List ℕ) → ℕ → Record → Verb → Result Command TableRefusal
-command_in season codes line row verb.Book = book_in codes line (item_of row)
-command_in season codes line row verb.Cancel = cancel_in line (item_of row)
-command_in season codes line row verb.Reforecast = reforecast_in codes line (item_of row) (amount_of row)
-command_in season codes line row verb.Reprice = reprice_in codes line (item_of row) (amount_of row)
-command_in season codes line row verb.Resize = resize_in line (night_of season (item_of row)) (rooms_of row)
+command_in season codes line row verb.Book = book_in codes line (item_cell row)
+command_in season codes line row verb.Cancel = cancel_in line (item_cell row)
+command_in season codes line row verb.Reforecast = reforecast_in codes line (item_cell row) (amount_cell row)
+command_in season codes line row verb.Reprice = reprice_in codes line (item_cell row) (amount_cell row)
+command_in season codes line row verb.Resize = resize_in line (night_of season (item_cell row)) (rooms_cell row)
 command_in season codes line row verb.Group =
-    group_in line (length season.rooms) (night_of season (item_of row)) (nights_of row) (rooms_of row) (amount_of row)
+    group_in line (length season.rooms) (night_of season (item_cell row)) (nights_cell row) (rooms_cell row) (amount_cell row)

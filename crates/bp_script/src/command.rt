@@ -1,11 +1,11 @@
-ghost use Rattle.std.specs.Prelude.{◌≡◌, ◌<◌, [], length, slice_index_or};
+ghost use Rattle.std.specs.Prelude.{◌≡◌, length};
 ghost use Rattle.bp_script.specs.Commands.{book_in, cancel_in, reforecast_in, reprice_in, resize_in, group_in, command_in};
 
 use crate::cells::{night_in, nights_in, number_within, stay_in};
 use crate::verb::Verb;
 use bp_hotelfile::{DateError, Hotel};
 use bp_stayfile::cells::{date_in, span_in};
-use bp_stayfile::tables::Rows;
+use bp_stayfile::tables::Row;
 use bp_stayfile::{Codes, TableRefusal};
 use bp_types::Command;
 use bp_types::limits::{
@@ -82,29 +82,27 @@ fn group_in(
 pub(crate) fn command_in(
     hotel: &Hotel,
     codes: &Codes,
-    rows: &Rows,
-    row: u64,
-    line: u64,
+    row: &Row<'_>,
     verb: Verb,
 ) -> Result<Command, TableRefusal>
-    requires row { row < length rows.now.rows }
-    requires columns { rows.now.columns ≡ 6 }
-    ensures { result ≡ command_in hotel.now codes.now line (slice_index_or rows.now.rows row []) verb }
+    requires { length row.now.fields ≡ 6 }
+    ensures { result ≡ command_in hotel.now codes.now row.now.line row.now.fields verb }
 {
-    let item = rows.field(row, 2);
-    let amount = rows.field(row, 5);
+    let line = row.line();
+    let item = row.field(2);
+    let amount = row.field(5);
     match verb {
         Verb::Book => book_in(codes, line, item),
         Verb::Cancel => cancel_in(line, item),
         Verb::Reforecast => reforecast_in(codes, line, item, amount),
         Verb::Reprice => reprice_in(codes, line, item, amount),
-        Verb::Resize => resize_in(line, hotel.night_of(item), rows.field(row, 4)),
+        Verb::Resize => resize_in(line, hotel.night_of(item), row.field(4)),
         Verb::Group => group_in(
             line,
             hotel.nights(),
             hotel.night_of(item),
-            rows.field(row, 3),
-            rows.field(row, 4),
+            row.field(3),
+            row.field(4),
             amount,
         ),
     }

@@ -9,6 +9,9 @@ use bp_types::{Instance, Memory, Span, Stay};
 use std::alloc::Global;
 use std::marker::Model;
 
+/// Seeds are below this number: they have nine digits at most.
+pub const SEEDS: u64 = 1_000_000_000;
+
 /// The factor of a draw and its modulus, a prime: the minimal standard generator of Park and Miller, 1988.
 const FACTOR: u64 = 16_807;
 
@@ -47,7 +50,7 @@ impl Draws {
 
     /// The stay of the next four draws, in a hotel of so many nights.
     fn stay(&mut self, nights: u32) -> Stay
-        requires { (1 ≤ nights) × (nights ≤ 400) }
+        requires { (1 ≤ nights) × (nights ≤ MOST_NIGHTS) }
         ensures state { self.new ≡ next (next (next (next self.old))) }
         ensures stay { result ≡ drawn_stay nights self.old }
         ensures small { IsSmallStay nights result }
@@ -69,8 +72,8 @@ impl Draws {
 
 /// So many stays, drawn one after the other.
 fn stays_drawn(alloc: Global, seed: u64, nights: u32, stays: u32) -> Result<Vec<Stay>, Memory>
-    requires seed { seed < 1000000000 }
-    requires nights { (1 ≤ nights) × (nights ≤ 400) }
+    requires seed { seed < SEEDS }
+    requires nights { (1 ≤ nights) × (nights ≤ MOST_NIGHTS) }
     ensures stays { IfOk result (λ v. v.items ≡ map (stay_drawn seed nights) (range_with_len 0 stays)) }
     ensures small { IfOk result (λ v. All (IsSmallStay nights) v.items) }
 {
@@ -91,7 +94,7 @@ pub fn generate(
     rooms: u64,
     stays: u32,
 ) -> Result<Instance, Memory>
-    requires seed { seed < 1000000000 }
+    requires seed { seed < SEEDS }
     requires nights { (1 ≤ nights) × (nights ≤ MOST_NIGHTS) }
     requires rooms { rooms ≤ MOST_ROOMS }
     requires stays { stays ≤ MOST_STAYS }

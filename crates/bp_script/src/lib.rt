@@ -13,10 +13,8 @@ mod generator;
 pub mod law;
 mod request;
 mod script;
-#[cfg(test)]
-mod tests;
 mod verb;
 
 pub use commands::Commands;
-pub use generator::generate;
+pub use generator::{SEEDS, generate};
 pub use script::read_script;

@@ -1,10 +1,10 @@
-ghost use Rattle.std.specs.Prelude.{◌≡◌, ◌<◌, ◌+◌, ◌^◌, [], length, slice_index_or};
+ghost use Rattle.std.specs.Prelude.{◌≡◌, ◌+◌, length};
 ghost use Rattle.bp_script.specs.Scripts.{session_in, room_in, request_in};
 
 use crate::command::command_in;
 use crate::verb::verb_in;
 use bp_hotelfile::Hotel;
-use bp_stayfile::tables::{Rows, number_of};
+use bp_stayfile::tables::{Row, number_of};
 use bp_stayfile::{Codes, TableRefusal};
 use bp_types::Command;
 use bp_types::limits::{MOST_ENTRIES, MOST_SESSIONS};
@@ -36,22 +36,21 @@ fn room_in(line: u64, before: u64) -> Result<(), TableRefusal>
     }
 }
 
-/// What a row asks, after as many commands as there are rows before it.
+/// What a row asks, after so many commands before it.
 pub(crate) fn request_in(
     hotel: &Hotel,
     codes: &Codes,
-    rows: &Rows,
-    row: u64,
+    row: &Row<'_>,
+    before: u64,
 ) -> Result<Request, TableRefusal>
-    requires row { row < length rows.now.rows }
-    requires columns { rows.now.columns ≡ 6 }
-    requires fits { row + 2 < 2 ^ 64 }
-    ensures { result ≡ request_in hotel.now codes.now row (slice_index_or rows.now.rows row []) }
+    requires columns { length row.now.fields ≡ 6 }
+    requires line { row.now.line ≡ before + 2 }
+    ensures { result ≡ request_in hotel.now codes.now before row.now.fields }
 {
-    let line = row + 2;
-    let session = session_in(line, rows.field(row, 0))?;
-    let verb = verb_in(line, rows.field(row, 1))?;
-    let command = command_in(hotel, codes, rows, row, line, verb)?;
-    room_in(line, row)?;
+    let line = row.line();
+    let session = session_in(line, row.field(0))?;
+    let verb = verb_in(line, row.field(1))?;
+    let command = command_in(hotel, codes, row, verb)?;
+    room_in(line, before)?;
     Ok(Request { session, command })
 }

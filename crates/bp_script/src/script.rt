@@ -1,12 +1,13 @@
 ghost use Rattle.std.specs.Prelude.{◌≡◌, map, length, IfOk, IfErr, Ok, Err};
 ghost use Rattle.bp_stayfile.specs.Reading.{table_read};
 ghost use Rattle.bp_stayfile.specs.Refusals.{IfRefused};
-ghost use Rattle.bp_script.specs.Scripts.{request_rule, commands_of, greatest_session, by_session, script_file};
+ghost use Rattle.bp_stayfile.specs.Tables.{IsHeaderOf, table_of};
+ghost use Rattle.bp_script.specs.Scripts.{request_rule, script_columns, commands_of, greatest_session, by_session, script_file};
 
 use crate::Commands;
 use crate::request::{Request, request_in};
 use bp_hotelfile::Hotel;
-use bp_stayfile::tables::{Rows, rows};
+use bp_stayfile::tables::{Row, header};
 use bp_stayfile::{Codes, Column, TableError, TableRefusal};
 use bp_types::Memory;
 use std::alloc::Global;
@@ -20,29 +21,38 @@ const COLUMNS: [Column; 6] = [
     Column::Amount,
 ];
 
-/// What the rows of a table ask, in their order.
+/// What the rows behind a header ask, in their order.
 fn requests_under(
     alloc: Global,
     hotel: &Hotel,
     codes: &Codes,
-    rows: &Rows,
+    header: Row<'_>,
 ) -> Result<Vec<Request>, TableError>
-    requires { rows.now.columns ≡ 6 }
-    ensures read { IfOk result (λ v. table_read (request_rule hotel.now codes.now) rows.now ≡ Ok v.items) }
+    requires line { header.line ≡ 1 }
+    requires columns { header.behind.columns ≡ 6 }
+    ensures read { IfOk result (λ v. table_read (request_rule hotel.now codes.now) header.entry.behind ≡ Ok v.items) }
     ensures refused { IfErr result
-        (λ e. IfRefused e (λ r. table_read (request_rule hotel.now codes.now) rows.now ≡ Err r)) }
+        (λ e. IfRefused e (λ r. table_read (request_rule hotel.now codes.now) header.entry.behind ≡ Err r)) }
 {
     let mut requests = Vec::new(alloc);
-    for row in 0..rows.count() {
-        let request = request_in(hotel, codes, rows, row)?;
+    let mut at = header;
+    while let Some(row) = at.next()? {
+        let request = request_in(hotel, codes, &row, requests.len() as u64)?;
         if requests.push(request).is_err() {
             return Err(TableError::Memory);
         }
+        at = row;
     }
-    match rows.stop() {
-        Some(line) => Err(TableError::Refused(TableRefusal::NotCsv { line })),
-        None => Ok(requests),
-    }
+    Ok(requests)
+}
+
+/// The header of a script.
+fn script_header(alloc: Global, bytes: &[u8]) -> Result<Row<'_>, TableError>
+    ensures read { IfOk result (λ h. IsHeaderOf script_columns bytes.now h) }
+    ensures columns { IfOk result (λ h. h.behind.columns ≡ 6) }
+    ensures refused { IfErr result (λ e. IfRefused e (λ r. table_of script_columns bytes.now ≡ Err r)) }
+{
+    header(alloc, bytes, &COLUMNS)
 }
 
 /// The commands of a session.
@@ -93,7 +103,7 @@ pub fn read_script(
     ensures read { IfOk result (λ v. script_file hotel.now codes.now bytes.now ≡ Ok v.items) }
     ensures refused { IfErr result (λ e. IfRefused e (λ r. script_file hotel.now codes.now bytes.now ≡ Err r)) }
 {
-    let rows = rows(alloc, bytes, &COLUMNS)?;
-    let requests = requests_under(alloc, hotel, codes, &rows)?;
+    let header = script_header(alloc, bytes)?;
+    let requests = requests_under(alloc, hotel, codes, header)?;
     Ok(by_session(alloc, &requests)?)
 }

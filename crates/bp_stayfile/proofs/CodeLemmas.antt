@@ -1,5 +1,5 @@
 -- The codes of a set of texts.
-use Rattle.std.proofs.Common.{◌≡◌, ◌∙◌, sym, ap, refl, ℕ, suc, ◌+◌, ◌≤◌, ◌<◌, ◌-◌, Bool, false, not, List, [], ◌∷◌, ◌++◌, map, length, get_or, take, Some, None, String, Global, string_bytes, arith, inl, inr, length-append, nat_lt}
+use Rattle.std.proofs.Common.{◌≡◌, ◌∙◌, sym, ap, refl, ℕ, suc, ◌+◌, ◌<◌, ◌-◌, Bool, false, not, List, [], ◌∷◌, ◌++◌, map, length, get_or, take, Some, None, String, Global, string_bytes, arith, inl, inr, length-append, nat_lt}
 use Rattle.std.specs.List.{All, list_any, prefix_len, position, position_or_len}
 use Rattle.std.specs.Str.{bytes_eq}
 use Rattle.std.proofs.lemmas.Bool.{cases_Bool, cases_eq, ltb-true, ltb-false, le-ltb}

@@ -1,5 +1,5 @@
 -- The counts of a file, laid out by stay.
-use Rattle.std.proofs.Common.{◌≡◌, ◌∙◌, sym, ap, refl, ℕ, zero, suc, ◌+◌, ◌≤◌, ◌<◌, Bool, true, false, cond, eqb, eq-eqb, nat_le, List, [], ◌∷◌, ◌++◌, map, length, get_or, set, replicate, unwrap_or, Option, Some, None, is_some, Result, Ok, Err, arith, inl, inr, length-set, get_or-set_same, get_or-set_other}
+use Rattle.std.proofs.Common.{◌≡◌, ◌∙◌, sym, ap, refl, subst, count_by, ℕ, zero, suc, ◌+◌, ◌≤◌, ◌<◌, Bool, true, false, cond, eqb, eq-eqb, nat_le, List, [], ◌∷◌, ◌++◌, map, length, get_or, set, replicate, unwrap_or, Option, Some, None, is_some, Result, Ok, Err, arith, inl, inr, length-set, get_or-set_same, get_or-set_other}
 use Rattle.std.proofs.lemmas.Bool.{cases_eq, leb-true, false≢true}
 use Rattle.std.proofs.lemmas.Bool.Decides.{nat_tests}
 use Rattle.std.proofs.lemmas.List.{length-replicate}
@@ -10,7 +10,10 @@ use Rattle.bp_types.specs.Program.{covers, no_stay}
 use Rattle.bp_types.proofs.SumLemmas.{sum_below-cong}
 use Rattle.std.specs.Option.{ok_or}
 use Rattle.std.specs.Str.{bytes_eq}
+use Rattle.std.proofs.lemmas.List.Sums.{count_by-le-length, sum_by-cons}
 use Rattle.bp_hotelfile.specs.Steps.{◌>>=◌}
+use Rattle.bp_hotelfile.proofs.StepLemmas.{steps_tell}
+use Rattle.bp_stayfile.specs.Reading.{rows_read}
 use Rattle.bp_stayfile.specs.declared.counts.Counted.{Counted}
 use Rattle.bp_stayfile.specs.declared.error.TableRefusal.{TableRefusal}
 use Rattle.bp_stayfile.specs.declared.error.TableRefusal.TheVariants.{NoCode, Limit, TwiceCode}

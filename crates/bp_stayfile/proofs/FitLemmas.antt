@@ -1,9 +1,8 @@
 -- What the readers of a hotel's files accept breaks no limit of a house.
-use Rattle.std.proofs.Common.{◌≡◌, refl, ap, subst, ℕ, ◌≤◌, Bool, true, false, nat_lt, nat_le, List, length, get_or, All, Option, Some, None, Result, Ok, arith, inl, inr}
-use Rattle.std.specs.Prelude.{◌==◌}
+use Rattle.std.proofs.Common.{◌≡◌, refl, subst, ℕ, ◌≤◌, Bool, true, List, length, get_or, All, Option, Some, None, Ok, arith}
 use Rattle.std.specs.List.{find, range_with_len}
 use Rattle.std.specs.Option.{option_or, option_map}
-use Rattle.std.proofs.lemmas.Bool.{cases_Bool, ltb-false, lt-ltb, le-ltb, le-leb, eq-eqb}
+use Rattle.std.proofs.lemmas.Bool.{ltb-false, lt-ltb, le-ltb, le-leb, eq-eqb}
 use Rattle.std.proofs.lemmas.List.FromFn.{length-map-range_with_len}
 use Rattle.bp_types.specs.declared.stay.Stay.{Stay}
 use Rattle.bp_types.specs.declared.house.HouseError.{HouseError}
@@ -12,10 +11,8 @@ use Rattle.bp_types.specs.declared.limits.TheConstants.{MOST_NIGHTS, MOST_ROOMS}
 use Rattle.bp_types.specs.Limits.{unless, refusal_above}
 use Rattle.bp_types.specs.House.{is_oversold, unless_house, house_refusal}
 use Rattle.bp_types.proofs.Firsts.{find-range_none, none_passes}
-use Rattle.bp_hotelfile.specs.Steps.{◌>>=◌}
 use Rattle.bp_hotelfile.specs.Season.{Season, IsSeason}
 use Rattle.bp_hotelfile.proofs.StepLemmas.{steps_tell}
-use Rattle.bp_stayfile.specs.declared.error.TableRefusal.{TableRefusal}
 use Rattle.bp_stayfile.specs.StayList.{StayList, AreStays}
 use Rattle.bp_stayfile.specs.Counts.{counts_file}
 use Rattle.bp_stayfile.specs.Bookings.{sold_on, sold_by_night, sold_of, unless_overbooked, bookings_file, AreSold}

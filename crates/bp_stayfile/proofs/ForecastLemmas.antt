@@ -1,6 +1,6 @@
 -- What a forecast file sets, whole or up to its refusal.
-use Rattle.std.proofs.Common.{◌≡◌, ◌∙◌, sym, ap, subst, ℕ, zero, suc, ◌+◌, ◌<◌, ◌≤◌, Bool, true, false, cond, eqb, List, [], ◌∷◌, ◌++◌, map, length, get_or, All, Option, Some, None, Result, Ok, Err, arith}
-use Rattle.std.specs.Prelude.{MatchResult}
+use Rattle.std.proofs.Common.{◌≡◌, ◌∙◌, sym, ap, refl, subst, ℕ, zero, suc, ◌+◌, ◌<◌, ◌≤◌, Bool, true, false, cond, eqb, List, [], ◌∷◌, ◌++◌, map, length, get_or, All, Option, Some, None, Result, Ok, Err, arith}
+use Rattle.std.specs.Prelude.{IfOk, IfErr, MatchOption}
 use Rattle.std.specs.List.{range_with_len}
 use Rattle.std.proofs.lemmas.List.Elements.{All-push}
 use Rattle.bp_types.specs.declared.stay.Stay.{Stay}
@@ -9,8 +9,11 @@ use Rattle.bp_types.specs.Program.{no_stay}
 use Rattle.bp_hotelfile.specs.Steps.{◌>>=◌}
 use Rattle.bp_stayfile.specs.declared.counts.Counted.{Counted}
 use Rattle.bp_stayfile.specs.declared.error.TableRefusal.{TableRefusal}
+use Rattle.bp_stayfile.specs.declared.error.TableError.{TableError}
+use Rattle.bp_stayfile.specs.declared.error.TableError.TheVariants.{Refused}
 use Rattle.bp_stayfile.specs.Tables.{Record, Table, table_of}
 use Rattle.bp_stayfile.specs.Reading.{rows_read, unless_stopped, table_read, IsRefusedAfter}
+use Rattle.bp_stayfile.specs.Refusals.{IfRefused}
 use Rattle.bp_stayfile.specs.StayList.{StayList, IsStayList}
 use Rattle.bp_stayfile.specs.Counts.{count_of, counted_in, once_counted, count_rule, count_columns, counts_file}
 use Rattle.bp_stayfile.specs.Forecasts.{forecast_by, forecasts_set, with_forecasts, forecast_file, sets_before}
@@ -59,13 +62,13 @@ set_before list new bytes table named e file refused set =
     subst P (sym file) (named, refused, set)
 
 -- the counts that were put are laid out, whether or not a row was refused
-pub laid_out_by : (codes : List (List ℕ)) (stays : ℕ) (table : Table) (places : List (Option ℕ)) (r : Result (Unit {0}) TableRefusal) →
-    MatchResult r
-    (λ _. (named : List Counted) × (table_read (count_rule codes) table ≡ Ok named) × AreLaidOut stays named places)
-    (λ e. (named : List Counted) × IsRefusedAfter (count_rule codes) table named e × AreLaidOut stays named places) →
+pub laid_out_by : (codes : List (List ℕ)) (stays : ℕ) (table : Table) (places : List (Option ℕ)) (r : Result (Unit {0}) TableError) (o : Option TableRefusal) →
+    MatchOption o (r ≡ Ok tt) (λ e. r ≡ Err (Refused e)) →
+    IfOk r (λ _. (named : List Counted) × (table_read (count_rule codes) table ≡ Ok named) × AreLaidOut stays named places) →
+    IfErr r (λ e. IfRefused e (λ refusal. (named : List Counted) × IsRefusedAfter (count_rule codes) table named refusal × AreLaidOut stays named places)) →
     (named : List Counted) × AreLaidOut stays named places
-laid_out_by codes stays table places (Ok u) (named, read, laid_out) = (named, laid_out)
-laid_out_by codes stays table places (Err e) (named, refused, laid_out) = (named, laid_out)
+laid_out_by codes stays table places r None is read refused = let all = rw is at read in (all.0, all.2)
+laid_out_by codes stays table places r (Some e) is read refused = let before = rw is at refused in (before.0, before.2)
 
 once_counted-tells : (line : ℕ) (earlier : Option ℕ) (c d : Counted) → once_counted line earlier c ≡ Ok d → c ≡ d
 once_counted-tells line None c d e = (cc)

@@ -1,18 +1,17 @@
 -- The rows of a table, and the places of its columns.
-use Rattle.std.proofs.Common.{◌≡◌, ◌∙◌, sym, ap, refl, ℕ, zero, suc, ◌+◌, ◌<◌, ◌≤◌, ◌==◌, ◌&&◌, Bool, true, false, cond, List, [], ◌∷◌, map, find, length, get_or, drop, take, Some, None, arith, eq-eqb, inl, inr, not, Ok, Err}
-use Rattle.std.specs.List.{All, prefix_len}
-use Rattle.std.proofs.lemmas.Bool.{cases_eq, eqb-true, false≢true}
-use Rattle.std.proofs.lemmas.List.{drop_more, get_or-map, get_or-take, length-map, length-take, length-drop}
-use Rattle.std.proofs.lemmas.Grind.{get_or_after_one}
-use Rattle.std.proofs.lemmas.List.Sums.{prefix_len_passes, prefix_len-le-length}
-use Rattle.csv.specs.Records.{Row, fields_of}
+use Rattle.std.proofs.Common.{◌≡◌, ◌∙◌, sym, ap, refl, ℕ, zero, suc, ◌+◌, ◌<◌, ◌≤◌, ◌==◌, ◌&&◌, Bool, true, false, cond, List, [], ◌∷◌, map, find, length, get_or, drop, Option, Some, None, arith, eq-eqb, inl, inr, not, Ok, Err}
+use Rattle.std.specs.List.{All, prefix_len, take_while}
+use Rattle.std.proofs.lemmas.Bool.{cases_eq, eqb-true, ne_eqb, false≢true}
+use Rattle.std.proofs.lemmas.List.{drop_more, get_or-map, length-map}
+use Rattle.std.proofs.lemmas.List.Sums.{prefix_len-le-length, take_while-cons}
 use Rattle.bp_stayfile.specs.declared.column.Column.{Column}
 use Rattle.bp_stayfile.specs.declared.column.Column.TheVariants as column
 use Rattle.std.specs.Str.{bytes_eq}
 use Rattle.bp_stayfile.specs.Columns.{column_text}
 use Rattle.bp_stayfile.specs.Fields.{stripped}
 use Rattle.bp_stayfile.specs.declared.error.TableRefusal.{TableRefusal}
-use Rattle.bp_stayfile.specs.Tables.{Record, Table, is_text, is_taken, place_of, places_of, lacking, field_at, row_at, rows_at, rows_of, table_under, table_from, HaveRows}
+use Rattle.bp_stayfile.specs.declared.error.TableRefusal.TheVariants.{NotCsv}
+use Rattle.bp_stayfile.specs.Tables.{Record, Table, is_text, is_taken, place_of, places_of, lacking, row_at, rows_behind, unless_lacking, table_under, table_from, table_of, records_of}
 
 -- an element more that does not pass
 pub find-more : {X : Type 0} (p : X → Bool) (xs : List X) (i : ℕ) (d : X) → i < length xs → p (get_or xs i d) ≡ false → find p (drop i xs) ≡ find p (drop (i + 1) xs)
@@ -45,57 +44,62 @@ places_fit header columns none k d below =
     below_end p n le apart = elim (cases_eq p n) [ inl same ↦ absurd (false≢true (sym apart ∙ eq-eqb p n same)) | inr other ↦ omega arith ]
 
 -- a record that is taken is text, and as wide as the header
-taken_tells : (width : ℕ) (fields : Record) → is_taken width fields ≡ true → (length fields ≡ width) × (is_text fields ≡ true)
+pub taken_tells : (width : ℕ) (fields : Record) → is_taken width fields ≡ true → (length fields ≡ width) × (is_text fields ≡ true)
 taken_tells width fields e = by_tests (length fields == width) (is_text fields) refl refl e
   where
     by_tests : (a b : Bool) → a ≡ (length fields == width) → b ≡ is_text fields → (a && b) ≡ true → (length fields ≡ width) × (is_text fields ≡ true)
     by_tests true b same text h = (eqb-true (length fields) width (sym same), sym text ∙ h)
     by_tests false b same text h = absurd (false≢true h)
 
--- the records before the first one that is not taken have rows
-pub taken_have_rows : (places : List ℕ) (width : ℕ) (records : List Record) → All (λ p. p < width) places → HaveRows places (prefix_len (is_taken width) records) records
-taken_have_rows places width records fit = record {
-  within = prefix_len-le-length (is_taken width) records;
-  text = λ k h. (taken_tells width (get_or records k []) (prefix_len_passes (is_taken width) records k [] h)).1;
-  wide = λ k h j d below. omega (arith, fit j d below, (taken_tells width (get_or records k []) (prefix_len_passes (is_taken width) records k [] h)).0);
-}
+stops_same : (line n m k l : ℕ) → k ≡ 1 + n → l ≡ 1 + m → cond (k == l) None (Some (line + 1 + k)) ≡ cond {A = Option ℕ} (n == m) None (Some (line + 1 + 1 + n))
+stops_same line n m k l one more =
+    elim (cases_eq n m) [
+      | inl same ↦ rw (eq-eqb n m same, eq-eqb k l (omega (arith, one, more, same))) refl
+      | inr other ↦ rw (ne_eqb n m other, ne_eqb k l (λ e. other (omega (arith, one, more, e)))) (ap Some (omega (arith, one)))
+    ]
 
--- the fields of a row of a vector
-pub fields_at : (rows : List Row) (i : ℕ) (r : Row) → i < length rows → r ≡ get_or rows i r → get_or (map fields_of rows) i [] ≡ fields_of r
-fields_at rows i r below e = get_or-map fields_of rows i r [] below ∙ ap fields_of (sym e)
+-- the rows behind a line, where the first record is taken
+pub behind_taken : (line : ℕ) (places : List ℕ) (width : ℕ) (fields : Record) (rest : List Record) → is_taken width fields ≡ true →
+    ((rows_behind line places width (fields ∷ rest)).rows ≡ row_at places fields ∷ (rows_behind (line + 1) places width rest).rows)
+    × ((rows_behind line places width (fields ∷ rest)).stop ≡ (rows_behind (line + 1) places width rest).stop)
+behind_taken line places width fields rest taken =
+    let p = is_taken width in
+    let rows : take_while p (fields ∷ rest) ≡ fields ∷ take_while p rest = take_while-cons p fields rest ∙ ap (λ b. cond b (fields ∷ take_while p rest) []) taken in
+    let many : prefix_len p (fields ∷ rest) ≡ 1 + prefix_len p rest = ap (λ b. cond b (1 + prefix_len p rest) 0) taken in
+    let size : length (fields ∷ rest) ≡ 1 + length rest = omega arith in
+    (ap (map (row_at places)) rows, stops_same line (prefix_len p rest) (length rest) (prefix_len p (fields ∷ rest)) (length (fields ∷ rest)) many size)
 
--- no more records are taken than there are
-pub few_taken : (width : ℕ) (rows : List Row) → prefix_len (is_taken width) (map fields_of (drop 1 rows)) ≤ length rows
-few_taken width rows = omega (arith, prefix_len-le-length (is_taken width) (map fields_of (drop 1 rows)), length-map (drop 1 rows) fields_of, length-drop 1 rows)
-
--- a row of the table, by the record that it stands for
-pub row_of_record : (places : List ℕ) (count : ℕ) (rows : List Row) (i : ℕ) → i < length (rows_of places count (drop 1 (map fields_of rows))) → (i < count) × (i + 1 < length rows)
-row_of_record places count rows i h =
-    let many = length-map (take count (drop 1 (map fields_of rows))) (row_at places) in
-    omega (arith, h, many, length-take count (drop 1 (map fields_of rows)), length-drop 1 (map fields_of rows), length-map rows fields_of)
-
-pub record_behind : (rows : List Row) (i : ℕ) (r : Row) → i + 1 < length rows → r ≡ get_or rows (i + 1) r → get_or (drop 1 (map fields_of rows)) i [] ≡ fields_of r
-record_behind rows i r below is =
-    let next : 1 + i ≡ i + 1 = omega arith in
-    get_or_after_one (map fields_of rows) i [] ∙ ap (λ k. get_or (map fields_of rows) k []) next ∙ fields_at rows (i + 1) r below is
-
--- a cell of the rows is the field at its place
-pub cell_at : (places : List ℕ) (count : ℕ) (records : List Record) (i c place : ℕ) → i < count → count ≤ length records → c < length places → place ≡ get_or places c place →
-    get_or (get_or (rows_of places count records) i []) c [] ≡ field_at (get_or records i []) place
-cell_at places count records i c place row within column is =
-    let short : i < length (take count records) = omega (arith, length-take count records) in
-    ap (λ xs. get_or xs c []) (get_or-map (row_at places) (take count records) i [] [] short ∙ ap (row_at places) (get_or-take count records i [] row))
-    ∙ get_or-map (field_at (get_or records i [])) places c place [] column
-    ∙ ap (field_at (get_or records i [])) (sym is)
+-- and where it is not
+pub behind_wrong : (line : ℕ) (places : List ℕ) (width : ℕ) (fields : Record) (rest : List Record) → is_taken width fields ≡ false →
+    ((rows_behind line places width (fields ∷ rest)).rows ≡ []) × ((rows_behind line places width (fields ∷ rest)).stop ≡ Some (line + 1))
+behind_wrong line places width fields rest wrong =
+    let p = is_taken width in
+    let rows : take_while p (fields ∷ rest) ≡ [] = take_while-cons p fields rest ∙ ap (λ b. cond b (fields ∷ take_while p rest) []) wrong in
+    let none : prefix_len p (fields ∷ rest) ≡ 0 = ap (λ b. cond b (1 + prefix_len p rest) 0) wrong in
+    let apart : (prefix_len p (fields ∷ rest) == length (fields ∷ rest)) ≡ false = ne_eqb (prefix_len p (fields ∷ rest)) (length (fields ∷ rest)) (λ e. omega (arith, e, none)) in
+    (ap (map (row_at places)) rows, rw apart (ap Some (omega (arith, none))))
 
 -- the table of records whose first one is a right header
-pub table_from-right : (columns : List Column) (records : List Record) (header : Record) (t : Table) → 0 < length records → header ≡ get_or records 0 [] → is_text header ≡ true → lacking header columns ≡ None →
-    t ≡ rows_at (places_of header columns) (length header) (drop 1 records) → table_from columns records ≡ Ok t
-table_from-right columns [] header t some is text all made = absurd (omega arith)
-table_from-right columns (h ∷ rest) header t some is text all made = rw (← is, text, all) (ap Ok (sym made))
+pub table_from-right : (columns : List Column) (records rest : List Record) (header : Record) → records ≡ header ∷ rest → is_text header ≡ true → lacking header columns ≡ None →
+    table_from columns records ≡ Ok (rows_behind 1 (places_of header columns) (length header) rest)
+table_from-right columns records rest header is text all = rw (is, text, all) refl
 
 -- and of records whose first one is a wrong header
-pub table_from-wrong : (columns : List Column) (records : List Record) (header : Record) (e : TableRefusal) → 0 < length records → header ≡ get_or records 0 [] → ((rest : List Record) → table_under columns header rest ≡ Err e) →
+pub table_from-wrong : (columns : List Column) (records rest : List Record) (header : Record) (e : TableRefusal) → records ≡ header ∷ rest → ((behind : List Record) → table_under columns header behind ≡ Err e) →
     table_from columns records ≡ Err e
-table_from-wrong columns [] header e some is wrong = absurd (omega arith)
-table_from-wrong columns (h ∷ rest) header e some is wrong = rw (← is) (wrong rest)
+table_from-wrong columns records rest header e is wrong = rw is (wrong rest)
+
+-- a table has the named columns
+columns_under : (columns : List Column) (header : Record) (records : List Record) (table : Table) (text : Bool) (lacks : Option Column) → cond text (unless_lacking lacks (rows_behind 1 (places_of header columns) (length header) records)) (Err (NotCsv 1)) ≡ Ok table → table.columns ≡ length columns
+columns_under columns header records table true None e =
+    let same : rows_behind 1 (places_of header columns) (length header) records ≡ table = (cc) in
+    sym (ap (λ (t : Table). t.columns) same) ∙ length-map columns (place_of header)
+columns_under columns header records table true (Some c) e = absurd (cc)
+columns_under columns header records table false lacks e = absurd (cc)
+
+columns_from : (columns : List Column) (records : List Record) (table : Table) → table_from columns records ≡ Ok table → table.columns ≡ length columns
+columns_from columns [] table e = columns_under columns [] [] table (is_text []) (lacking [] columns) e
+columns_from columns (header ∷ records) table e = columns_under columns header records table (is_text header) (lacking header columns) e
+
+pub columns_of : (columns : List Column) (bytes : List ℕ) (table : Table) → table_of columns bytes ≡ Ok table → table.columns ≡ length columns
+columns_of columns bytes table e = columns_from columns (records_of bytes) table e

@@ -1,5 +1,5 @@
 -- A stay that is read is within its limits.
-use Rattle.std.proofs.Common.{◌≡◌, ◌∙◌, sym, ap, subst, refl, ℕ, zero, suc, ◌+◌, ◌≤◌, ◌<◌, Bool, true, false, cond, List, [], ◌∷◌, ◌++◌, map, length, get_or, Option, Some, None, Result, Ok, Err, nat_le, nat_lt, ◌&&◌, arith, is_some, length-append}
+use Rattle.std.proofs.Common.{◌≡◌, ◌∙◌, sym, ap, subst, refl, ℕ, zero, suc, ◌+◌, ◌≤◌, ◌<◌, Bool, true, false, cond, List, [], ◌∷◌, ◌++◌, length, get_or, Option, Some, None, Result, Ok, Err, nat_le, nat_lt, ◌&&◌, arith, is_some, length-append}
 use Rattle.std.proofs.lemmas.Bool.{and_parts, leb-true, ltb-true}
 use Rattle.std.proofs.lemmas.List.{length-map, map-append}
 use Rattle.std.proofs.lemmas.List.Elements.{All-push}
@@ -12,7 +12,7 @@ use Rattle.bp_hotelfile.specs.Season.{Season, night_of}
 use Rattle.bp_hotelfile.specs.Steps.{◌>>=◌}
 use Rattle.bp_stayfile.specs.declared.error.TableRefusal.{TableRefusal}
 use Rattle.bp_stayfile.specs.declared.error.TableRefusal.TheVariants.{Limit, TwiceCode}
-use Rattle.bp_stayfile.specs.Tables.{Record, table_of}
+use Rattle.bp_stayfile.specs.Tables.{Record, Table, table_of}
 use Rattle.bp_stayfile.specs.Reading.{rows_read, unless_stopped, table_read}
 use Rattle.bp_stayfile.specs.Cells.{code_in, number_in, date_in, span_in, limits_in}
 use Rattle.bp_stayfile.specs.Codes.{stay_with, IsCodes}

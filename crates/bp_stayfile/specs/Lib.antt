@@ -15,3 +15,4 @@ pub mod Refusals
 pub mod Laws
 -- How the readers hold what they read. No contract of a public call cites these.
 pub mod LaidOut
+pub mod Records

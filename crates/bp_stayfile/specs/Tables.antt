@@ -1,5 +1,5 @@
 -- A table: the records that `csv` gives, their columns found by name.
-use Rattle.std.specs.Prelude.{◌≡◌, ℕ, ◌+◌, ◌<◌, ◌≤◌, true, Bool, ◌&&◌, ◌==◌, if◌then◌else◌, List, [], ◌∷◌, map, take, find, length, slice_index_or, Option, Some, None, Result, Ok, Err, All}
+use Rattle.std.specs.Prelude.{◌≡◌, ℕ, ◌+◌, Bool, ◌&&◌, ◌==◌, if◌then◌else◌, List, [], ◌∷◌, map, find, length, slice_index_or, Option, Some, None, Result, Ok, Err}
 use Rattle.std.specs.List.{list_all, prefix_len, position_or_len, take_while}
 use Rattle.std.specs.Str.{is_utf8, bytes_eq}
 use Rattle.csv.specs.Reading.{default_config, records, strip_bom}
@@ -51,30 +51,26 @@ pub record Table : Type 0 where
   pub rows : List Record
   pub stop : Option ℕ
 
--- a field of a table
-abbrev pub cell : Table → ℕ → ℕ → List ℕ
-cell table row column = slice_index_or (slice_index_or table.rows row []) column []
-
--- the line of the first record that is not taken: the header is line 1
-abbrev pub stop_line : ℕ → List Record → Option ℕ
-stop_line width records =
+-- the line of the first record that is not taken, of records behind a line
+abbrev pub stop_line : ℕ → ℕ → List Record → Option ℕ
+stop_line line width records =
     if prefix_len (is_taken width) records == length records then None
-    else Some (prefix_len (is_taken width) records + 2)
+    else Some (line + 1 + prefix_len (is_taken width) records)
 
--- the rows at some places, up to the first record that is not taken
-abbrev pub rows_at : List ℕ → ℕ → List Record → Table
-rows_at places width records =
-    record { columns = length places; rows = map (row_at places) (take_while (is_taken width) records); stop = stop_line width records }
+-- the rows at some places behind a line, up to the first record that is not taken
+abbrev pub rows_behind : ℕ → List ℕ → ℕ → List Record → Table
+rows_behind line places width records =
+    record { columns = length places; rows = map (row_at places) (take_while (is_taken width) records); stop = stop_line line width records }
 
 -- the table, unless a column is missing
 abbrev pub unless_lacking : Option Column → Table → Result Table TableRefusal
 unless_lacking None table = Ok table
 unless_lacking (Some c) table = Err (Lacks c)
 
--- the table under a header, or what is wrong with the header
+-- the table under a header, which is line 1, or what is wrong with the header
 abbrev pub table_under : List Column → Record → List Record → Result Table TableRefusal
 table_under columns header records =
-    if is_text header then unless_lacking (lacking header columns) (rows_at (places_of header columns) (length header) records) else Err (NotCsv 1)
+    if is_text header then unless_lacking (lacking header columns) (rows_behind 1 (places_of header columns) (length header) records) else Err (NotCsv 1)
 
 -- the table of the records of a text; a text with no record has an empty header
 abbrev pub table_from : List Column → List Record → Result Table TableRefusal
@@ -85,12 +81,33 @@ table_from columns (header ∷ records) = table_under columns header records
 abbrev pub table_of : List Column → List ℕ → Result Table TableRefusal
 table_of columns bytes = table_from columns (records_of bytes)
 
--- the rows at some places of the first so many records
-abbrev pub rows_of : List ℕ → ℕ → List Record → List Record
-rows_of places count records = map (row_at places) (take count records)
+-- a row with its line, and what stands behind it
+pub record TableRow : Type 0 where
+  pub line : ℕ
+  pub fields : Record
+  pub behind : Table
 
--- each of the first so many records is text, and has the places
-pub record HaveRows (places : List ℕ) (count : ℕ) (records : List Record) : Type 0 where
-  pub within : count ≤ length records
-  pub text : (k : ℕ) → k < count → is_text (slice_index_or records k []) ≡ true
-  pub wide : (k : ℕ) → k < count → All (λ p. p < length (slice_index_or records k [])) places
+-- one row further
+pub record IsNext (old new : TableRow) : Type 0 where
+  pub line : new.line ≡ old.line + 1
+  pub rows : old.behind.rows ≡ new.fields ∷ new.behind.rows
+  pub stop : old.behind.stop ≡ new.behind.stop
+  pub columns : new.behind.columns ≡ old.behind.columns
+  pub one_each : length new.fields ≡ old.behind.columns
+
+-- there is nothing behind the row
+pub record IsLast (old : TableRow) : Type 0 where
+  pub rows : old.behind.rows ≡ []
+  pub stop : old.behind.stop ≡ None
+
+-- the record behind the row is not taken
+pub record IsBeforeStop (old : TableRow) (e : TableRefusal) : Type 0 where
+  pub line : ℕ
+  pub rows : old.behind.rows ≡ []
+  pub stop : old.behind.stop ≡ Some line
+  pub refusal : e ≡ NotCsv line
+
+-- the header of a text with its columns, before the first row
+pub record IsHeaderOf (columns : List Column) (bytes : List ℕ) (s : TableRow) : Type 0 where
+  pub line : s.line ≡ 1
+  pub table : table_of columns bytes ≡ Ok s.behind

@@ -1,13 +1,13 @@
-ghost use Rattle.std.specs.Prelude.{◌≡◌, ◌<◌, ◌+◌, ◌^◌, ◌≤◌, ℕ, List, [], length, slice_index_or, MatchResult, IfOk, IfErr, Ok, Err, Some, None, is_some, slice_set, true, replicate};
+ghost use Rattle.std.specs.Prelude.{◌≡◌, ◌<◌, List, length, slice_index_or, MatchResult, IfOk, IfErr, Ok, Err, Some, None, is_some, slice_set, true, replicate};
 ghost use Rattle.bp_stayfile.specs.declared.counts.Counted.{Counted};
 ghost use Rattle.bp_stayfile.specs.Reading.{table_read, IsRefusedAfter};
-ghost use Rattle.bp_stayfile.specs.Tables.{table_of};
+ghost use Rattle.bp_stayfile.specs.Tables.{IsHeaderOf, table_of};
 ghost use Rattle.bp_stayfile.specs.Counts.{count_of, count_in, counted_in, count_rule, count_columns, counts_file};
 ghost use Rattle.bp_stayfile.specs.LaidOut.{AreLaidOut};
 ghost use Rattle.bp_stayfile.specs.Refusals.{IfRefused};
 
 use crate::cells::{code_in, number_in};
-use crate::tables::{Rows, rows};
+use crate::tables::{Row, header};
 use crate::{Codes, Column, TableError, TableRefusal};
 use bp_types::Memory;
 use bp_types::limits::MOST_FORECAST;
@@ -33,17 +33,15 @@ fn count_in(line: u64, counted: Counted) -> Result<Counted, TableRefusal>
 }
 
 /// The count of a row, whatever the rows before it say.
-fn counted_in(codes: &Codes, rows: &Rows, row: u64) -> Result<Counted, TableRefusal>
-    requires row { row < length rows.now.rows }
-    requires columns { rows.now.columns ≡ 2 }
-    requires fits { row + 2 < 2 ^ 64 }
-    ensures { result ≡ counted_in codes.now (row + 2) (slice_index_or rows.now.rows row []) }
+fn counted_in(codes: &Codes, row: &Row<'_>) -> Result<Counted, TableRefusal>
+    requires { length row.now.fields ≡ 2 }
+    ensures { result ≡ counted_in codes.now row.now.line row.now.fields }
 {
-    let line = row + 2;
-    let code = rows.field(row, 0);
+    let line = row.line();
+    let code = row.field(0);
     code_in(line, code)?;
     let stay = codes.find(code).ok_or(TableRefusal::NoCode { line })?;
-    let count = number_in(line, rows.field(row, 1))?;
+    let count = number_in(line, row.field(1))?;
     count_in(line, Counted { stay, count })
 }
 
@@ -70,34 +68,35 @@ pub(crate) fn no_counts(alloc: Global, stays: usize) -> Result<Vec<Option<u64>>,
     Ok(vec![in alloc; None; stays]?)
 }
 
-/// Puts the counts of the rows at their stays, and stops at the first refusal.
+/// Puts the counts of the rows behind a header at their stays, and stops at the first refusal.
 pub(crate) fn put_counts(
     codes: &Codes,
-    rows: &Rows,
+    header: Row<'_>,
     counts: &mut [Option<u64>],
-) -> Result<(), TableRefusal>
-    requires columns { rows.now.columns ≡ 2 }
+) -> Result<(), TableError>
+    requires line { header.line ≡ 1 }
+    requires columns { header.behind.columns ≡ 2 }
     requires empty { counts.old ≡ replicate (length codes.now) None }
-    ensures { MatchResult result
-        (λ _. (named : List Counted) × (table_read (count_rule codes.now) rows.now ≡ Ok named) × AreLaidOut (length codes.now) named counts.new)
-        (λ e. (named : List Counted) × IsRefusedAfter (count_rule codes.now) rows.now named e × AreLaidOut (length codes.now) named counts.new) }
+    ensures read { IfOk result (λ _. (named : List Counted) × (table_read (count_rule codes.now) header.entry.behind ≡ Ok named) × AreLaidOut (length codes.now) named counts.new) }
+    ensures refused { IfErr result (λ e. IfRefused e
+        (λ r. (named : List Counted) × IsRefusedAfter (count_rule codes.now) header.entry.behind named r × AreLaidOut (length codes.now) named counts.new)) }
 {
-    for row in 0..rows.count() {
-        let counted = counted_in(codes, rows, row)?;
-        put(counts, row + 2, counted)?;
+    let mut at = header;
+    while let Some(row) = at.next()? {
+        let counted = counted_in(codes, &row)?;
+        put(counts, row.line(), counted)?;
+        at = row;
     }
-    match rows.stop() {
-        Some(line) => Err(TableRefusal::NotCsv { line }),
-        None => Ok(()),
-    }
+    Ok(())
 }
 
-/// The rows of a forecast or a bookings file.
-pub(crate) fn count_rows(alloc: Global, bytes: &[u8]) -> Result<Rows, TableError>
-    ensures read { IfOk result (λ t. (table_of count_columns bytes.now ≡ Ok t) × (t.columns ≡ 2)) }
+/// The header of a forecast or a bookings file.
+pub(crate) fn count_header(alloc: Global, bytes: &[u8]) -> Result<Row<'_>, TableError>
+    ensures read { IfOk result (λ h. IsHeaderOf count_columns bytes.now h) }
+    ensures columns { IfOk result (λ h. h.behind.columns ≡ 2) }
     ensures refused { IfErr result (λ e. IfRefused e (λ r. table_of count_columns bytes.now ≡ Err r)) }
 {
-    rows(alloc, bytes, &COLUMNS)
+    header(alloc, bytes, &COLUMNS)
 }
 
 /// The counts of a forecast or a bookings file, one place per stay.
@@ -110,8 +109,8 @@ pub(crate) fn counts_of(
         × AreLaidOut (length codes.now) counts v.items) }
     ensures refused { IfErr result (λ e. IfRefused e (λ r. counts_file codes.now bytes.now ≡ Err r)) }
 {
-    let rows = count_rows(alloc, bytes)?;
+    let header = count_header(alloc, bytes)?;
     let mut counts = no_counts(alloc, codes.count() as usize)?;
-    put_counts(codes, &rows, &mut counts)?;
+    put_counts(codes, header, &mut counts)?;
     Ok(counts)
 }

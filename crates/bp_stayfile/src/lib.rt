@@ -16,8 +16,6 @@ mod sold;
 mod stays;
 mod stays_file;
 pub mod tables;
-#[cfg(test)]
-mod tests;
 
 pub use bookings::read_bookings;
 pub use codes::Codes;

@@ -1,10 +1,10 @@
-ghost use Rattle.std.specs.Prelude.{◌≡◌, ◌<◌, ◌+◌, ◌^◌, length, slice_index_or, [], IfOk, IfErr, Ok, Err};
-ghost use Rattle.bp_stayfile.specs.Reading.{table_read};
+ghost use Rattle.std.specs.Prelude.{◌≡◌, ◌+◌, length, IfOk, IfErr, Ok, Err};
 ghost use Rattle.bp_stayfile.specs.Refusals.{IfRefused};
-ghost use Rattle.bp_stayfile.specs.Stays.{stay_in, stays_under, stays_file};
+ghost use Rattle.bp_stayfile.specs.Stays.{stay_in, stay_columns, stays_under, stays_file};
+ghost use Rattle.bp_stayfile.specs.Tables.{IsHeaderOf, table_of};
 
 use crate::cells::{code_in, date_in, limits_in, number_in, span_in};
-use crate::tables::{Rows, rows};
+use crate::tables::{Row, header};
 use crate::{Codes, Column, Stays, TableError, TableRefusal};
 use bp_hotelfile::Hotel;
 use bp_types::Stay;
@@ -13,21 +13,19 @@ use std::alloc::Global;
 const COLUMNS: [Column; 4] = [Column::Code, Column::Arrival, Column::Nights, Column::Rate];
 
 /// The stay of a row, after as many codes as there are rows before it.
-fn stay_in(hotel: &Hotel, codes: &Codes, rows: &Rows, row: u64) -> Result<Stay, TableRefusal>
-    requires row { row < length rows.now.rows }
-    requires columns { rows.now.columns ≡ 4 }
-    requires before { length codes.now ≡ row }
-    requires fits { row + 2 < 2 ^ 64 }
-    ensures { result ≡ stay_in hotel.now codes.now (slice_index_or rows.now.rows row []) }
+fn stay_in(hotel: &Hotel, codes: &Codes, row: &Row<'_>) -> Result<Stay, TableRefusal>
+    requires columns { length row.now.fields ≡ 4 }
+    requires line { row.now.line ≡ length codes.now + 2 }
+    ensures { result ≡ stay_in hotel.now codes.now row.now.fields }
 {
-    let line = row + 2;
-    let code = rows.field(row, 0);
+    let line = row.line();
+    let code = row.field(0);
     code_in(line, code)?;
-    let arrival = hotel.night_of(rows.field(row, 1));
+    let arrival = hotel.night_of(row.field(1));
     date_in(line, arrival)?;
-    let nights = number_in(line, rows.field(row, 2))?;
-    let rate = number_in(line, rows.field(row, 3))?;
-    limits_in(line, row, nights, rate)?;
+    let nights = number_in(line, row.field(2))?;
+    let rate = number_in(line, row.field(3))?;
+    limits_in(line, u64::from(codes.count()), nights, rate)?;
     let span = span_in(line, hotel.nights(), arrival, nights)?;
     if codes.find(code).is_some() {
         return Err(TableRefusal::TwiceCode { line });
@@ -40,29 +38,38 @@ fn stay_in(hotel: &Hotel, codes: &Codes, rows: &Rows, row: u64) -> Result<Stay, 
     })
 }
 
-/// The stays of the rows of a table.
-fn stays_under(alloc: Global, hotel: &Hotel, rows: &Rows) -> Result<Stays, TableError>
-    requires { rows.now.columns ≡ 4 }
-    ensures read { IfOk result (λ s. stays_under hotel.now rows.now ≡ Ok s) }
-    ensures refused { IfErr result (λ e. IfRefused e (λ r. stays_under hotel.now rows.now ≡ Err r)) }
+/// The stays of the rows behind a header.
+fn stays_under(alloc: Global, hotel: &Hotel, header: Row<'_>) -> Result<Stays, TableError>
+    requires line { header.line ≡ 1 }
+    requires columns { header.behind.columns ≡ 4 }
+    ensures read { IfOk result (λ s. stays_under hotel.now header.entry.behind ≡ Ok s) }
+    ensures refused { IfErr result (λ e. IfRefused e (λ r. stays_under hotel.now header.entry.behind ≡ Err r)) }
 {
     let mut codes = Codes::new(alloc);
     let mut stays = Vec::new(alloc);
-    for row in 0..rows.count() {
-        let stay = stay_in(hotel, &codes, rows, row)?;
-        codes.add(alloc, rows.field(row, 0))?;
+    let mut at = header;
+    while let Some(row) = at.next()? {
+        let stay = stay_in(hotel, &codes, &row)?;
+        codes.add(alloc, row.field(0))?;
         if stays.push(stay).is_err() {
             return Err(TableError::Memory);
         }
+        at = row;
     }
-    match rows.stop() {
-        Some(line) => Err(TableError::Refused(TableRefusal::NotCsv { line })),
-        None => Ok(Stays {
-            nights: hotel.nights(),
-            codes,
-            stays,
-        }),
-    }
+    Ok(Stays {
+        nights: hotel.nights(),
+        codes,
+        stays,
+    })
+}
+
+/// The header of a stays file.
+fn stay_header(alloc: Global, bytes: &[u8]) -> Result<Row<'_>, TableError>
+    ensures read { IfOk result (λ h. IsHeaderOf stay_columns bytes.now h) }
+    ensures columns { IfOk result (λ h. h.behind.columns ≡ 4) }
+    ensures refused { IfErr result (λ e. IfRefused e (λ r. table_of stay_columns bytes.now ≡ Err r)) }
+{
+    header(alloc, bytes, &COLUMNS)
 }
 
 /// The stays of a stays file, in the order of the file, or the first thing that is wrong.
@@ -73,6 +80,6 @@ pub fn read_stays(alloc: Global, hotel: &Hotel, bytes: &[u8]) -> Result<Stays, T
     ensures of_hotel { IfOk result (λ s. s.nights ≡ length hotel.now.rooms) }
     ensures refused { IfErr result (λ e. IfRefused e (λ r. stays_file hotel.now bytes.now ≡ Err r)) }
 {
-    let rows = rows(alloc, bytes, &COLUMNS)?;
-    stays_under(alloc, hotel, &rows)
+    let header = stay_header(alloc, bytes)?;
+    stays_under(alloc, hotel, header)
 }

@@ -4,6 +4,8 @@ ghost use Rattle.std.specs.Str.{all_ascii_digits};
 ghost use Rattle.bp_hotelfile.specs.Numbers.{number};
 ghost use Rattle.bp_stayfile.specs.Fields.{without_front, stripped, number_of, is_code_byte, is_code};
 
+use bp_text::Number;
+
 /// The text without the spaces at its front.
 fn without_front(text: &str) -> &str
     ensures { result.now ≡ without_front text.now }
@@ -37,18 +39,16 @@ pub(crate) fn stripped(text: &str) -> &str
     without_back(without_front(text))
 }
 
+/// The number that a few decimal digits write.
 fn digits(bytes: &[u8]) -> Option<u64>
     requires { length bytes.now ≤ 18 }
     ensures { result ≡ (if all_ascii_digits bytes.now then Some (number bytes.now) else None) }
 {
-    let mut number: u64 = 0;
-    for byte in bytes {
-        if !byte.is_ascii_digit() {
-            return None;
-        }
-        number = 10 * number + u64::from(*byte - b'0');
+    match bp_text::digits(bytes, 999_999_999_999_999_999) {
+        Number::Value(value) => Some(value as u64),
+        Number::Bad => None,
+        Number::Great => unreachable!(),
     }
-    Some(number)
 }
 
 /// The number that 1 to 18 decimal digits write. Leading zeros are allowed.

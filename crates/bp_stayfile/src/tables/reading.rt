@@ -1,33 +1,51 @@
-ghost use Rattle.std.specs.Prelude.{◌≡◌, ◌<◌, map, IfOk, MatchOption, IsTrue, slice_index_or, length, [], true, false};
+ghost use Rattle.std.specs.Prelude.{◌≡◌, ◌<◌, ◌≤◌, ◌+◌, ◌∷◌, IfOk, MatchOption, IsTrue, slice_index_or, length, [], true, false};
+ghost use Rattle.std.specs.Bool.{MatchBool};
 ghost use Rattle.std.specs.Str.{is_utf8};
+ghost use Rattle.csv.specs.Reading.{error_kind};
 ghost use Rattle.csv.specs.Records.{fields_of};
 ghost use Rattle.bp_stayfile.specs.Fields.{stripped};
+ghost use Rattle.bp_stayfile.specs.Records.{IsReading, IsWantOfMemory, records_left};
 ghost use Rattle.bp_stayfile.specs.Tables.{records_of, is_text, field_at};
 
 use super::fields::stripped;
 use bp_types::Memory;
-use csv::{ByteRecord, ReaderBuilder};
+use csv::{ByteRecord, Error, ErrorKind, Reader, ReaderBuilder};
 use std::alloc::Global;
 
-/// Every record of a text, the header first.
-pub(super) fn records_of(alloc: Global, bytes: &[u8]) -> Result<Vec<ByteRecord>, Memory>
-    ensures { IfOk result (λ v. map fields_of v.items ≡ records_of bytes.now) }
+/// A reader of the records of a text, the header first.
+pub(super) fn reader_of(alloc: Global, bytes: &[u8]) -> Reader<&[u8]>
+    ensures reading { IsReading result }
+    ensures records { records_left result ≡ records_of bytes.now }
+    ensures few { length (records_left result) ≤ length bytes.now + 1 }
 {
-    let reader = ReaderBuilder::new()
+    ReaderBuilder::new()
         .has_headers(false)
         .flexible(true)
-        .from_reader(alloc, bytes);
-    let mut records = Vec::new(alloc);
-    for record in reader.into_byte_records() {
-        // Over bytes in memory, and with records of any length allowed, the reader fails for want of memory alone.
-        let Ok(record) = record else {
-            return Err(Memory);
-        };
-        if records.push(record).is_err() {
-            return Err(Memory);
-        }
+        .from_reader(alloc, bytes)
+}
+
+/// Why a read fails that allows records of any length and asks for no text.
+fn want_of_memory(error: Error) -> Memory
+    requires { IsWantOfMemory (error_kind error) }
+{
+    match error.into_kind() {
+        ErrorKind::Io(_) | ErrorKind::OutOfMemory => Memory,
+        _ => unreachable!(),
     }
-    Ok(records)
+}
+
+/// Reads the next record of a reader, if there is one.
+pub(super) fn next_record(reader: &mut Reader<&[u8]>, raw: &mut ByteRecord) -> Result<bool, Memory>
+    requires { IsReading reader.old }
+    ensures { IfOk result (λ found. MatchBool found
+        (IsReading reader.new × (records_left reader.old ≡ fields_of raw.new ∷ records_left reader.new))
+        (records_left reader.old ≡ [])) }
+{
+    match reader.read_byte_record(raw) {
+        Ok(true) => Ok(true),
+        Ok(false) => Ok(false),
+        Err(error) => Err(want_of_memory(error)),
+    }
 }
 
 /// A field as text, where it is UTF-8.

@@ -1,15 +1,18 @@
-use Rattle.std.proofs.Common.{◌≡◌, List, length, Ok}
-use Rattle.bp_stayfile.specs.Reading.{rows_read}
+use Rattle.std.proofs.Common.{◌≡◌, ◌+◌, List, length}
 use Rattle.bp_stayfile.specs.Stays.{Coded, stay_rule, codes_of, stays_of}
+use Rattle.bp_stayfile.proofs.ReadLemmas.{IsReadUpTo}
 use Rattle.bp_stayfile.proofs.stays_file.stays_under.Given as goal
 
--- the rows before this one are read
-abbrev pub invariant-loop-row : goal.invariant-loop-row
-invariant-loop-row l = record {
+-- the rows up to this one are read
+abbrev pub invariant-loop-stays : goal.invariant-loop-stays
+invariant-loop-stays l = record {
   before : List Coded;
-  read : rows_read (stay_rule l.hotel) l.rows.rows l.row ≡ Ok before;
+  read : IsReadUpTo (stay_rule l.hotel) l.fn.header.behind l.at.behind before;
+  line : l.at.line ≡ length before + 1;
+  columns : l.at.behind.columns ≡ 4;
   codes : l.codes ≡ codes_of before;
   stays : l.stays.items ≡ stays_of before;
-  many : length l.stays.items ≡ l.row;
-  one_each : length l.codes ≡ l.row;
 }
+
+abbrev pub decreases-loop-stays : goal.decreases-loop-stays
+decreases-loop-stays l = length l.at.behind.rows

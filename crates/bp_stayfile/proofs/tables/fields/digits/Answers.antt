@@ -1,13 +1,11 @@
-use Rattle.std.proofs.Common.{arith}
-use Rattle.std.proofs.Math.Nat.{pow-le-pow_right}
+use Rattle.bp_hotelfile.proofs.DigitLemmas.{value_read, bad_read, none_too_great}
 use Rattle.bp_stayfile.proofs.tables.fields.digits.Goals as goal
 
-pub overflow_mul-number : goal.overflow_mul-number
-overflow_mul-number c =
-    let small = pow-le-pow_right {n = 10} (omega arith) {i = c.loop-byte.byte-index} {j = 17} (omega arith) in
-    omega (arith, small, c.loop-byte.invariant.small)
+pub unreachable-requires : goal.unreachable-requires
+unreachable-requires c = none_too_great c.args.bytes.now 18 c.requires c.in-Great.ensures
 
-pub overflow_add-number : goal.overflow_add-number
-overflow_add-number c =
-    let small = pow-le-pow_right {n = 10} (omega arith) {i = c.loop-byte.byte-index} {j = 17} (omega arith) in
-    omega (arith, small, c.loop-byte.invariant.small, c.from.ensures)
+pub returns-in-Value : goal.returns-in-Value
+returns-in-Value c = value_read c.args.bytes.now 999999999999999999 c.in-Value.value c.in-Value.ensures
+
+pub returns-in-Bad : goal.returns-in-Bad
+returns-in-Bad c = bad_read c.args.bytes.now 999999999999999999 c.in-Bad.ensures

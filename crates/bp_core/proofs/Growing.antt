@@ -14,13 +14,13 @@ use Rattle.bp_core.specs.declared.line.Line.{Line}
 use Rattle.bp_core.specs.declared.call.Call.{Call}
 use Rattle.bp_core.specs.declared.call.Call.TheVariants.{Do, Publish, Enrol, Leave}
 use Rattle.bp_core.specs.declared.call.Answer.{Answer}
-use Rattle.bp_core.specs.Lines.{History, is_by, calls}
+use Rattle.bp_core.specs.Lines.{History, is_by, is_publish, calls, vectors}
 use Rattle.bp_core.specs.Callers.{greatest_caller, is_enrol, is_leave, has_entry, has_enrolled, has_left, may_act, may_log}
 use Rattle.bp_core.specs.Changes.{is_change, changes_between}
 use Rattle.bp_core.specs.Instance.{instance_of}
 use Rattle.bp_core.specs.Acting.{Diary, IsLogged, IsRefused, refusal, line_of}
 use Rattle.bp_core.specs.Calls.{Continues}
-use Rattle.bp_core.specs.Staying.{IsPrefix, RightStaysRight, AnsweredContinues, ContinuedIsPrefix, MayLogByOwn, ChangesGrow, ChangesStay, InstanceStays, InstanceAtStart}
+use Rattle.bp_core.specs.Staying.{IsPrefix, RightStaysRight, AnsweredContinues, ContinuedIsPrefix, MayLogByOwn, ChangesGrow, NumberNeverFalls, ChangesStay, InstanceStays, InstanceAtStart}
 use Rattle.bp_core.proofs.Openings.{instance_at_start}
 use Rattle.bp_core.proofs.Prefixes.{take_take}
 use Rattle.bp_core.proofs.Pushes.{count-push}
@@ -125,17 +125,18 @@ continued_is_prefix old new continues =
     let begins : take (length old.history) new.history ≡ old.history = (continues.1 (length old.history) (omega arith)).1 ∙ take-length old.history in
     (drop (length old.history) new.history, sym (take-append-drop (length old.history) new.history) ∙ ap (λ G. G ++ drop (length old.history) new.history) begins)
 
-count_on : (xs rest : History) → count_by is_change xs ≤ count_by is_change (xs ++ rest)
-count_on xs [] = let e = ap (count_by is_change) (append-nil xs) in omega (arith, e)
-count_on xs (x ∷ rest) =
-    let e = ap (count_by is_change) (append_assoc xs (x ∷ []) rest) in
-    let one = count-push is_change xs x in
-    let le = count_on (xs ++ x ∷ []) rest in
+-- with more lines behind no fewer pass a test
+count_on : (p : Line → Bool) (xs rest : History) → count_by p xs ≤ count_by p (xs ++ rest)
+count_on p xs [] = let e = ap (count_by p) (append-nil xs) in omega (arith, e)
+count_on p xs (x ∷ rest) =
+    let e = ap (count_by p) (append_assoc xs (x ∷ []) rest) in
+    let one = count-push p xs x in
+    let le = count_on p (xs ++ x ∷ []) rest in
     omega (arith, e, one, le)
 
 -- there are no fewer changes from a place on with more lines behind
 pub count_more : (part rest : History) (a : ℕ) → count_by is_change (drop a part) ≤ count_by is_change (drop a (part ++ rest))
-count_more part rest zero = count_on part rest
+count_more part rest zero = count_on is_change part rest
 count_more [] rest (suc a) = omega arith
 count_more (x ∷ part) rest (suc a) = count_more part rest a
 
@@ -143,6 +144,9 @@ pub changes_grow : ChangesGrow
 changes_grow H a b c le =
     let whole : take b H ++ drop b (take c H) ≡ take c H = ap (λ G. G ++ drop b (take c H)) (sym (take_take H b c le)) ∙ take-append-drop b (take c H) in
     subst (λ G. changes_between H a b ≤ count_by is_change (drop a G)) whole (count_more (take b H) (drop b (take c H)) a)
+
+pub number_never_falls : NumberNeverFalls
+number_never_falls G H (rest, is) = let e = ap vectors is in let le = count_on is_publish G rest in omega (arith, e, le)
 
 pub changes_stay : ChangesStay
 changes_stay G H a b begins within = ap (λ K. count_by is_change (drop a K)) (take-prefix G H b begins within)

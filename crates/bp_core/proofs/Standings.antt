@@ -1,8 +1,8 @@
 -- What a standing says of what a caller may do.
-use Rattle.std.proofs.Common.{◌≡◌, ℕ, suc, ◌+◌, ◌-◌, ◌<◌, ◌≤◌, refl, ap, sym, subst, ◌∙◌, arith, Bool, true, false, not, nat_le, cond, ◌==◌, ◌&&◌, ◌||◌, IsTrue, [], ◌∷◌, ◌++◌, length, count_by, inl, inr}
+use Rattle.std.proofs.Common.{◌≡◌, ℕ, zero, suc, ◌+◌, ◌-◌, ◌<◌, ◌≤◌, refl, ap, sym, subst, ◌∙◌, arith, Bool, true, false, not, min, nat_le, cond, ◌==◌, ◌&&◌, ◌||◌, IsTrue, [], ◌∷◌, ◌++◌, length, count_by, inl, inr}
 use Rattle.std.specs.List.{list_any, range_with_len}
 use Rattle.std.proofs.Math.Seq.{take-length}
-use Rattle.std.proofs.lemmas.Bool.{cases_Bool, and_parts, and_from, and_left, eqb-true, eq-eqb, ne_eqb, le-leb, lt-leb, or_cases}
+use Rattle.std.proofs.lemmas.Bool.{cases_Bool, and_parts, and_from, and_left, eqb-true, eq-eqb, ne_eqb, le-leb, lt-leb, leb-true, leb-false, or_cases}
 use Rattle.std.proofs.lemmas.List.Sums.{sum_by-append}
 use Rattle.bp_types.specs.House.{Inn}
 use Rattle.bp_core.specs.declared.line.Act.{Act}
@@ -124,3 +124,29 @@ left_step H c some =
     let same : c + 1 - 1 ≡ c - 1 + 1 = omega arith in
     let here : c - 1 + 1 ≡ c = omega arith in
     ap (left_of H) same ∙ left_more H (c - 1) ∙ ap (λ k. left_of H (c - 1) + cond (has_left H k) 1 0) here
+
+-- whoever has left has a number up to 63
+far_has_not_left : (h : Inn) (H : History) (c : ℕ) → IsLegal h H → 63 < c → has_left H c ≡ false
+far_has_not_left h H c legal far =
+    elim (cases_Bool (has_left H c)) [
+      | inr stays ↦ stays
+      | inl left ↦ absurd (let small = (counted_at h H legal).numbered c (sym (entry_is_enrolled h H legal c (λ e. omega (arith, far, e))) ∙ left_has_entry H c left) in omega (arith, far, small))
+    ]
+
+-- of more callers no more have left
+left_past_all : (h : Inn) (H : History) → IsLegal h H → (k : ℕ) → left_of H (63 + k) ≡ left_of H 63
+left_past_all h H legal zero = refl
+left_past_all h H legal (suc k) =
+    let size : 63 + suc k ≡ 63 + k + 1 = omega arith in
+    let none = ap (λ (b : Bool). cond {A = ℕ} b 1 0) (far_has_not_left h H (63 + k + 1) legal (omega arith)) in
+    let more = left_more H (63 + k) in
+    ap (left_of H) size ∙ (let o : left_of H (63 + k + 1) ≡ left_of H (63 + k) = omega (arith, more, none) in o) ∙ left_past_all h H legal k
+
+-- so the callers up to 63 are all that is looked at
+pub left_of_fewer : (h : Inn) (H : History) (m n : ℕ) → IsLegal h H → m ≡ min n 63 → left_of H m ≡ left_of H n
+left_of_fewer h H m n legal least =
+    elim (cases_Bool (nat_le n 63)) [
+      | inl few ↦ (let below = leb-true n 63 few in let same : m ≡ n = omega (arith, least, below) in ap (left_of H) same)
+      | inr many ↦ (let above = leb-false n 63 many in let same : m ≡ 63 = omega (arith, least, above) in let size : 63 + (n - 63) ≡ n = omega (arith, above) in
+          ap (left_of H) same ∙ sym (left_past_all h H legal (n - 63)) ∙ ap (left_of H) size)
+    ]

@@ -4,7 +4,7 @@ use Rattle.bp_types.specs.House.{Inn, opening}
 use Rattle.bp_core.specs.declared.line.Act.{Act}
 use Rattle.bp_core.specs.declared.call.Call.{Call}
 use Rattle.bp_core.specs.declared.call.Answer.{Answer}
-use Rattle.bp_core.specs.Lines.{History, calls}
+use Rattle.bp_core.specs.Lines.{History, calls, last_number}
 use Rattle.bp_core.specs.Callers.{may_log}
 use Rattle.bp_core.specs.Instance.{instance_at}
 use Rattle.bp_core.specs.Changes.{changes_between, deltas_between}
@@ -34,6 +34,10 @@ MayLogByOwn = (G H : History) (caller : ℕ) (act : Act) → calls G caller ≡ 
 -- up to a later place there are no fewer changes
 abbrev pub ChangesGrow : Type 0
 ChangesGrow = (H : History) (a b c : ℕ) → b ≤ c → changes_between H a b ≤ changes_between H a c
+
+-- the number of the last vector does not fall
+abbrev pub NumberNeverFalls : Type 0
+NumberNeverFalls = (G H : History) → IsPrefix G H → last_number G ≤ last_number H
 
 -- the changes between two positions stand there in each longer history
 abbrev pub ChangesStay : Type 0

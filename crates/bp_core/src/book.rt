@@ -9,7 +9,7 @@ ghost use Rattle.bp_types.specs.Claim.{IsCertificateOf};
 ghost use Rattle.bp_core.specs.declared.line.Line.{Line};
 ghost use Rattle.bp_board.specs.Posted.{Posted};
 ghost use Rattle.bp_core.specs.Lines.{published_position, is_accepted, has_given_up, commands, vectors, certificate_at, boards, last_number, last_position, last_prices};
-ghost use Rattle.bp_core.specs.Callers.{greatest_caller, may_act, may_enrol, may_log, left_of};
+ghost use Rattle.bp_core.specs.Callers.{may_act, may_enrol, may_log, left_of};
 ghost use Rattle.bp_core.specs.Instance.{rooms_at, sold_at, forecast_of, rate_of, instance_at, rooms_left_at};
 ghost use Rattle.bp_core.specs.Changes.{changes_between, changes_after, deltas_between, resize_delta};
 ghost use Rattle.bp_core.specs.Answer.{book_reply};
@@ -479,11 +479,11 @@ impl Book {
 
     /// How many of the callers from 1 to a number have left.
     pub fn left(&self, sessions: u32) -> u32
-        requires { sessions ≤ greatest_caller }
         ensures { result ≡ left_of self.now.history sessions }
     {
+        let most = sessions.min(MOST_CALLERS);
         let mut left = 0;
-        for caller in 1..sessions + 1 {
+        for caller in 1..most + 1 {
             if self.roll.is_gone(caller) {
                 left += 1;
             }

@@ -29,6 +29,3 @@ pub fn make_all(alloc: Global, book: &mut Book, calls: Vec<Made>) -> Result<Vec<
     }
     Ok(answers)
 }
-
-#[cfg(test)]
-mod tests;

@@ -1,7 +1,7 @@
 //! Laws over histories, as the contracts of functions that do nothing.
 
 ghost use Rattle.bp_core.specs.Laws.{PrefixesAreLegal, NeverOversold, DeltasLead, EveryListIsLegal};
-ghost use Rattle.bp_core.specs.Staying.{RightStaysRight, AnsweredContinues, ContinuedIsPrefix, MayLogByOwn, ChangesGrow, ChangesStay, InstanceStays, InstanceAtStart, DeltasAppend, DeltasLast};
+ghost use Rattle.bp_core.specs.Staying.{RightStaysRight, AnsweredContinues, ContinuedIsPrefix, MayLogByOwn, ChangesGrow, NumberNeverFalls, ChangesStay, InstanceStays, InstanceAtStart, DeltasAppend, DeltasLast};
 ghost use Rattle.bp_core.specs.Counting.{NothingMore, JustThese, VectorBetween, TurnsSettle, LastPositionWithin, LastBoardIsLast, LeaveIsLast, CommandsAddUp};
 ghost use Rattle.bp_core.specs.Replying.{LastLineIsLegal, OneReply, AnswersSay};
 ghost use Rattle.bp_core.specs.Headline.{AcceptedExactly, VectorsAreOptimal, VectorsAreNewer, LeastIsKept};
@@ -51,6 +51,11 @@ pub fn may_log_by_own()
 /// Up to a later place there are no fewer changes.
 pub fn changes_grow()
     ensures { ChangesGrow }
+{}
+
+/// While a history grows the number of its last vector does not fall.
+pub fn number_never_falls()
+    ensures { NumberNeverFalls }
 {}
 
 /// The changes between two positions stand there in each longer history.

@@ -8,4 +8,6 @@ mod hotel;
 #[cfg(test)]
 mod hundred;
 #[cfg(test)]
+mod made;
+#[cfg(test)]
 mod tests;

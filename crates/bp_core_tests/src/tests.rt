@@ -11,6 +11,8 @@ use bp_core::Reply::{
 };
 use bp_types::Command::{Book, Cancel, Group, Reforecast, Reprice, Resize};
 use bp_types::{Change, Limits, Stay};
+use std::alloc::Global;
+use std::process::Abort;
 use std::test::Fail;
 
 const A_TIE: [Row; 4] = [
@@ -168,16 +170,22 @@ const CASES: [(&str, Case); 3] = [
     ),
 ];
 
+/// One case on a desk of its own.
+fn worked_case(rt: &impl Abort, alloc: Global, name: &str, case: &Case) -> Result<(), Fail> {
+    let (sold, opening, rows, closing, want) = *case;
+    let mut desk = Desk::open(alloc, &ROOMS, sold, &STAYS, LIMITS, opening)?;
+    desk.run(rt, rows);
+    let got = desk.publish(alloc, 0, closing, 1)?;
+    assert_eq!(rt; got, Some(want), "{name}");
+    assert_eq!(rt; desk.ask(1, Enrol), None, "{name}");
+    assert_eq!(rt; desk.ask(1, Leave), None, "{name}");
+    Ok(())
+}
+
 #[test]
 fn worked_cases_up_to_their_last_vector(rt: HostRuntime) -> Result<(), Fail> {
-    let alloc = rt.alloc();
-    for (name, (sold, opening, rows, closing, want)) in &CASES {
-        let mut desk = Desk::open(alloc, &ROOMS, sold, &STAYS, LIMITS, *opening)?;
-        desk.run(&rt, rows);
-        let got = desk.publish(alloc, 0, *closing, 1)?;
-        assert_eq!(rt; got, Some(*want), "{name}");
-        assert_eq!(rt; desk.ask(1, Enrol), None, "{name}");
-        assert_eq!(rt; desk.ask(1, Leave), None, "{name}");
+    for (name, case) in &CASES {
+        worked_case(&rt, rt.alloc(), name, case)?;
     }
     Ok(())
 }
@@ -237,23 +245,28 @@ const UNITS: [Units; 2] = [
     (100, &HALVES, IN_HALVES, HALVES_WITHOUT, 145, 14_500),
 ];
 
+/// Three groups at a desk of its own: one that pays too little, one that ties, and one for which there is no room.
+fn three_groups(rt: &impl Abort, alloc: Global, units: &Units) -> Result<(), Fail> {
+    let (unit, stays, with, without, amount, displacement) = *units;
+    let limits = Limits { unit, ..LIMITS };
+    let mut desk = Desk::open(alloc, &ROOMS, &[0, 0, 0], stays, limits, with)?;
+    desk.run(rt, &[(1, Enrol, Logged(Done))]);
+    let quote = desk.quote(alloc, N12, 1, with, without)?;
+    let low = desk.group(1, N12, 1, amount.saturating_sub(1), quote);
+    assert_eq!(rt; low, Some(Logged(GroupTooLow { displacement })), "{unit}");
+    let quote = desk.quote(alloc, N12, 1, with, without)?;
+    let tie = desk.group(1, N12, 1, amount, quote);
+    assert_eq!(rt; tie, Some(Logged(GroupAccepted { displacement })), "{unit}");
+    desk.run(rt, &FULL_NIGHT);
+    let last = desk.publish(alloc, 0, without, 1)?;
+    assert_eq!(rt; last, Some(Logged(Vector { number: 1 })), "{unit}");
+    Ok(())
+}
+
 #[test]
 fn three_groups_in_rooms_and_in_hundredths(rt: HostRuntime) -> Result<(), Fail> {
-    let alloc = rt.alloc();
-    for (unit, stays, with, without, amount, displacement) in &UNITS {
-        let (unit, displacement) = (*unit, *displacement);
-        let limits = Limits { unit, ..LIMITS };
-        let mut desk = Desk::open(alloc, &ROOMS, &[0, 0, 0], stays, limits, *with)?;
-        desk.run(&rt, &[(1, Enrol, Logged(Done))]);
-        let quote = desk.quote(alloc, N12, 1, *with, *without)?;
-        let low = desk.group(1, N12, 1, amount.saturating_sub(1), quote);
-        assert_eq!(rt; low, Some(Logged(GroupTooLow { displacement })), "{unit}");
-        let quote = desk.quote(alloc, N12, 1, *with, *without)?;
-        let tie = desk.group(1, N12, 1, *amount, quote);
-        assert_eq!(rt; tie, Some(Logged(GroupAccepted { displacement })), "{unit}");
-        desk.run(&rt, &FULL_NIGHT);
-        let last = desk.publish(alloc, 0, *without, 1)?;
-        assert_eq!(rt; last, Some(Logged(Vector { number: 1 })), "{unit}");
+    for units in &UNITS {
+        three_groups(&rt, rt.alloc(), units)?;
     }
     Ok(())
 }

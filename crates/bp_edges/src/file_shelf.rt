@@ -17,6 +17,7 @@ pub struct FileShelf<'a, R> {
 }
 
 impl<'a, R: Files> FileShelf<'a, R> {
+    /// The shelf of a runtime's files, with nothing fetched yet.
     pub fn new(rt: &'a R) -> FileShelf<'a, R>
         ensures faults { ⟦<FileShelf<'a, R> as Shelf>⟧.faults result ≡ 0 }
         ensures fetches { ⟦<FileShelf<'a, R> as Shelf>⟧.fetches result ≡ 0 }

@@ -20,6 +20,7 @@ impl Model for HeldFile {
 }
 
 impl HeldFile {
+    /// A file of this name that holds these bytes.
     pub fn new(name: String, bytes: Vec<u8>) -> HeldFile
         ensures name { result.name ≡ string_bytes name }
         ensures bytes { result.bytes ≡ bytes.items }

@@ -33,6 +33,7 @@ impl Model for MemoryShelf {
 }
 
 impl MemoryShelf {
+    /// A shelf of these files whose calls of the numbers in `failing` fail, counted from 1.
     pub fn new(files: Vec<HeldFile>, failing: Vec<u64>) -> MemoryShelf
         ensures files { result.files ≡ files.items }
         ensures calls { result.schedule.calls ≡ 0 }

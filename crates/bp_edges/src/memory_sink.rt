@@ -26,6 +26,7 @@ impl Model for MemorySink {
 }
 
 impl MemorySink {
+    /// A sink with nothing written, whose calls of the numbers in `failing` fail, counted from 1.
     pub fn new(failing: Vec<u64>) -> MemorySink
         ensures written { result.written ≡ [] }
         ensures calls { result.schedule.calls ≡ 0 }
@@ -40,6 +41,7 @@ impl MemorySink {
         }
     }
 
+    /// All bytes that have been written, in their order.
     pub fn written(&self) -> &[u8]
         ensures { result.now ≡ self.now.written }
     {

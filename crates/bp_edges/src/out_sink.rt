@@ -15,6 +15,7 @@ pub struct OutSink<'a, R> {
 }
 
 impl<'a, R: Print> OutSink<'a, R> {
+    /// The standard output of a runtime, with no write failed yet.
     pub fn new(rt: &'a R) -> OutSink<'a, R>
         ensures { ⟦<OutSink<'a, R> as Sink>⟧.faults result ≡ 0 }
     {
@@ -22,7 +23,7 @@ impl<'a, R: Print> OutSink<'a, R> {
     }
 }
 
-// Writes the whole piece, or fails after a first part of it.
+/// Writes the whole piece to a stream of `std`, or fails after a first part of it.
 pub fn write_out<W: Write>(out: &mut W, piece: &[u8]) -> Result<(), SinkError>
     ensures writes { Writes (W.contents out.old) (W.contents out.new) piece.now result }
     ensures failed { IsOkUnless result SinkError.Failed }

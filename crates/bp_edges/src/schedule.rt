@@ -21,6 +21,7 @@ impl Model for Schedule {
 }
 
 impl Schedule {
+    /// No call made yet; those of the numbers in `failing`, counted from 1, will fail.
     pub fn new(failing: Vec<u64>) -> Schedule
         ensures calls { result.calls ≡ 0 }
         ensures failing { result.failing ≡ failing.items }

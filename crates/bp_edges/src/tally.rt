@@ -33,6 +33,7 @@ impl Model for Tally {
 }
 
 impl Tally {
+    /// Nothing fetched, and no fault.
     pub fn new() -> Tally
         ensures { result ≡ record { faults = 0; fetches = 0; last = no_fetch } }
     {

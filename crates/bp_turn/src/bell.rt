@@ -11,6 +11,7 @@ pub struct Bell {
 }
 
 impl Bell {
+    /// A bell for which nobody asks yet.
     pub fn new() -> Bell {
         Bell {
             count: AtomicU64::new(0),

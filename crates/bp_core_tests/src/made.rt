@@ -1,8 +1,9 @@
+//! A list of calls that is made at once.
+
 ghost use Rattle.std.specs.Prelude.{◌≡◌, None};
 
-use super::{Made, make_all};
-use crate::{Answer, Book, Call, Reply};
 use bp_board::Board;
+use bp_core::{Answer, Book, Call, Made, Reply, make_all};
 use bp_types::{Certificate, Command, House, Limits};
 use std::alloc::Global;
 use std::sync::Arc;

@@ -7,8 +7,6 @@ pub mod law;
 pub mod lines;
 mod loads;
 mod problem_text;
-#[cfg(test)]
-mod tests;
 mod verdict;
 
 pub use bp_text::TextError;

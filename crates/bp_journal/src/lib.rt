@@ -12,8 +12,6 @@ mod numbers;
 mod reading;
 mod replies;
 mod spell;
-#[cfg(test)]
-mod tests;
 mod told;
 mod version;
 mod writing;

@@ -7,3 +7,6 @@ pub mod Asking
 pub mod Reading
 pub mod Rooms
 pub mod Vectors
+pub mod Counting
+pub mod Quoting
+pub mod Moving

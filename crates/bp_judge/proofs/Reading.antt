@@ -1,5 +1,5 @@
 -- What reading a line that is no vector owes.
-use Rattle.std.proofs.Common.{◌≡◌, ◌≢◌, ◌∙◌, refl, sym, subst, ap, [], ◌∷◌, ◌++◌, Option, Some, None, MatchOption}
+use Rattle.std.proofs.Common.{◌≡◌, ◌≢◌, ◌∙◌, false, refl, sym, subst, ap, [], ◌∷◌, ◌++◌, Option, Some, None, MatchOption}
 use Rattle.bp_types.specs.House.{Inn}
 use Rattle.bp_core.specs.declared.line.Act.{Act}
 use Rattle.bp_core.specs.declared.line.Line.{Line}
@@ -17,6 +17,7 @@ use Rattle.bp_judge.specs.declared.replay.Replay.{Replay}
 use Rattle.bp_judge.specs.declared.judgement.Cause.{Cause}
 use Rattle.bp_judge.specs.declared.judgement.Cause.TheVariants.{Opening, Caller, Range, Limit, Behind, Position, Certificate, Reply as OtherReply}
 use Rattle.bp_judge.specs.Judging.{IsFirstCause}
+use Rattle.bp_judge.specs.Searches.{wants_quote}
 use Rattle.bp_judge.specs.Replays.{IsReplay, HasRead, IsOther, IsPlain}
 use Rattle.bp_judge.proofs.Firsts.{first_reply, first_with}
 use Rattle.bp_judge.proofs.Along.{replay_later}
@@ -54,20 +55,20 @@ read_plain last once old new x reply cause is book compared = go cause compared
 same_reply : (a b : Reply) → Logged a ≡ Logged b → a ≡ b
 same_reply a b e = cc
 
-unrefused : LastLineIsLegal → OneReply → (old : Replay) (new : Diary) (x : Line) (act : Act) (reply made : Reply) (cause : Option Cause) → IsReplay old → x.entry.act ≡ act → published_position act ≡ None →
+unrefused : LastLineIsLegal → OneReply → (old : Replay) (new : Diary) (x : Line) (act : Act) (reply made : Reply) (cause : Option Cause) → IsReplay old → x.entry.act ≡ act → published_position act ≡ None → wants_quote old.book.house old.book.history act ≡ false →
     new ≡ record { house = old.book.house; history = old.book.history ++ plain_line x.entry.caller act made ∷ [] } → IsLegal new.house new.history → reply ≡ made →
     MatchOption cause ((x.certificate ≡ None) × (x.entry.reply ≡ reply)) (IsOther x reply) → HasRead old (record { book = new; trail = old.trail }) x cause
-unrefused last once old new x act reply made cause is same plain adds legal replies compared =
+unrefused last once old new x act reply made cause is same plain skips adds legal replies compared =
     let adds' : new ≡ record { house = old.book.house; history = old.book.history ++ plain_line x.entry.caller x.entry.act reply ∷ [] } =
     adds ∙ ap (λ a. record { house = old.book.house; history = old.book.history ++ plain_line x.entry.caller a made ∷ [] }) (sym same)
     ∙ ap (λ r. record { house = old.book.house; history = old.book.history ++ plain_line x.entry.caller x.entry.act r ∷ [] }) (sym replies) in
-    let after : IsReplay (record { book = new; trail = old.trail }) = replay_later old (record { book = new; trail = old.trail }) (plain_line x.entry.caller x.entry.act reply) is refl adds' legal (ap published_position same ∙ plain) in
+    let after : IsReplay (record { book = new; trail = old.trail }) = replay_later old (record { book = new; trail = old.trail }) (plain_line x.entry.caller x.entry.act reply) is refl adds' legal (ap published_position same ∙ plain) (ap (wants_quote old.book.house old.book.history) same ∙ skips) in
     read_plain last once old (record { book = new; trail = old.trail }) x reply cause after adds' compared
 
 -- an Enrol or a Leave
 pub read_unrefused : LastLineIsLegal → OneReply → (old : Replay) (new : Diary) (x : Line) (call : Call) (reply : Reply) (answer : Answer) (cause : Option Cause) → IsReplay old → IsPlain call → x.entry.act ≡ act_of call → IsAnswered old.book new x.entry.caller call answer →
     IsLegal new.house new.history → answer ≡ Logged reply → MatchOption cause ((x.certificate ≡ None) × (x.entry.reply ≡ reply)) (IsOther x reply) → HasRead old (record { book = new; trail = old.trail }) x cause
-read_unrefused last once old new x Enrol reply answer cause is plain act l legal same compared = unrefused last once old new x EnrolAct reply l.reply cause is act refl (l.adds) legal (same_reply reply l.reply (sym same ∙ l.answer_is)) compared
-read_unrefused last once old new x Leave reply answer cause is plain act l legal same compared = unrefused last once old new x LeaveAct reply l.reply cause is act refl (l.adds) legal (same_reply reply l.reply (sym same ∙ l.answer_is)) compared
+read_unrefused last once old new x Enrol reply answer cause is plain act l legal same compared = unrefused last once old new x EnrolAct reply l.reply cause is act refl refl (l.adds) legal (same_reply reply l.reply (sym same ∙ l.answer_is)) compared
+read_unrefused last once old new x Leave reply answer cause is plain act l legal same compared = unrefused last once old new x LeaveAct reply l.reply cause is act refl refl (l.adds) legal (same_reply reply l.reply (sym same ∙ l.answer_is)) compared
 read_unrefused last once old new x (Do command quoted) reply answer cause is plain act l legal same compared = absurd plain
 read_unrefused last once old new x (Publish board least) reply answer cause is plain act l legal same compared = absurd plain

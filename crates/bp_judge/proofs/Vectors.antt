@@ -35,6 +35,8 @@ use Rattle.bp_judge.specs.Courses.{IsCourse}
 use Rattle.bp_judge.specs.Trails.{GoesWith}
 use Rattle.bp_judge.specs.Replays.{IsReplay}
 use Rattle.bp_judge.proofs.Along.{goes_later, last_moves}
+use Rattle.bp_judge.proofs.Quoting.{quoted_stays, vector_skips}
+use Rattle.bp_judge.specs.Searches.{last_quoted}
 use Rattle.bp_judge.proofs.Firsts.{Rules, first_position, opens_later}
 
 -- no certificate that certifies the instance at the position goes with the line
@@ -111,6 +113,7 @@ opened_replay at_start h book x course p is legal opened at instance position ro
       legal = legal;
       goes = subst P (sym is) (record { course = c; solved = tt });
       at = position ∙ sym (ap (λ (d : Diary). last_position d.history) is ∙ last_moves [] x 0 (ap published_position o.1));
+      last = sym (ap (λ (d : Diary). last_quoted d.house d.history) is ∙ quoted_stays h [] x (vector_skips h [] x.entry.act 0 o.1));
     }
 
 -- a later line
@@ -175,6 +178,7 @@ published old new course x board position number answer is along stands logged l
         legal = legal;
         goes = subst P (sym adds) goes;
         at = stands ∙ sym (ap (λ (d : Diary). last_position d.history) adds ∙ last_moves H x position (ap published_position act));
+        last = is.last ∙ sym (ap (λ (d : Diary). last_quoted d.house d.history) adds ∙ quoted_stays old.book.house H x (vector_skips old.book.house H x.entry.act position act));
       },
       adds,
     )

@@ -15,13 +15,15 @@ use Rattle.bp_judge.specs.declared.replay.Replay.{Replay}
 use Rattle.bp_judge.specs.declared.judgement.Cause.{Cause}
 use Rattle.bp_judge.specs.declared.judgement.Cause.TheVariants.{Certificate, Reply as OtherReply}
 use Rattle.bp_judge.specs.Judging.{IsFirstCause}
-use Rattle.bp_judge.specs.Trails.{GoesWith}
+use Rattle.bp_judge.specs.Searches.{last_quoted}
+use Rattle.bp_judge.specs.Trails.{GoesWith, quoted_at}
 
--- the book is legal; what is carried along goes with it, its instance at the last vector's position
+-- the book is legal; what is carried along goes with it, its instance at the last vector's position, and its solver where the last displacement was found
 pub record IsReplay (r : Replay) : Type 0 where
   pub legal : IsLegal r.book.house r.book.history
   pub goes : GoesWith r.book.house r.book.history r.trail
   pub at : r.trail.course.position ≡ last_position r.book.history
+  pub last : quoted_at r.trail ≡ last_quoted r.book.house r.book.history
 
 -- the line has a first cause after the book's history, or the book has it now
 abbrev pub HasRead : Replay → Replay → Line → Option Cause → Type 0
@@ -36,6 +38,10 @@ IsAsked old new caller command (Logged reply) = Adds old new caller command repl
 IsAsked old new caller command HistoryFull = IsFull old
 IsAsked old new caller command (Behind position changes) = IsBehind old command position changes
 IsAsked old new caller command _ = ⊥
+
+-- where the answer is a reply, the replay goes on
+abbrev pub GoesOn : Replay → Answer → Type 0
+GoesOn r answer = (reply : Reply) → answer ≡ Logged reply → IsReplay r
 
 -- an Enrol or a Leave
 abbrev pub IsPlain : Call → Type 0

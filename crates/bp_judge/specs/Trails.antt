@@ -1,5 +1,6 @@
 -- Solvers that go along a history.
-use Rattle.std.specs.Prelude.{◌≡◌, MatchOption}
+use Rattle.std.specs.Prelude.{◌≡◌, ℕ, Option, MatchOption}
+use Rattle.std.specs.Option.{option_map}
 use Rattle.bp_types.specs.House.{Inn}
 use Rattle.bp_flow.specs.Settled.{IsSettled}
 use Rattle.bp_core.specs.Lines.{History}
@@ -17,3 +18,7 @@ pub record IsSolvedAt (h : Inn) (H : History) (s : Solved) : Type 0 where
 pub record GoesWith (h : Inn) (H : History) (t : Trail) : Type 0 where
   pub course : IsCourse h H t.course
   pub solved : MatchOption t.solved (Unit {0}) (IsSolvedAt h H)
+
+-- the position of the solver, if there is one
+abbrev pub quoted_at : Trail → Option ℕ
+quoted_at t = option_map (λ (s : Solved). s.course.position) t.solved

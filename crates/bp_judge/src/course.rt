@@ -1,6 +1,7 @@
 ghost use Rattle.std.specs.Prelude.{◌≡◌, ◌<◌, ◌≤◌, length, vec_capacity, IfOk};
 ghost use Rattle.bp_types.specs.Changes.{Leads};
 ghost use Rattle.bp_warm.specs.Turns.{units_moved_by_all};
+ghost use Rattle.bp_core.specs.Changes.{deltas_between};
 ghost use Rattle.bp_judge.specs.Courses.{IsCourse};
 
 use crate::units::apply_all;
@@ -64,6 +65,7 @@ impl Course {
         ensures is { IsCourse book.now.house book.now.history self.new }
         ensures goes_on { self.old.position < self.new.position }
         ensures within { self.new.position ≤ until }
+        ensures deltas { self.new.changes.items ≡ deltas_between book.now.house book.now.history self.old.position self.new.position }
         ensures leads { Leads self.old.instance self.new.changes.items self.new.instance }
         ensures moved { result ≡ units_moved_by_all self.old.instance self.new.changes.items }
     {

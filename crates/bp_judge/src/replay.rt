@@ -1,5 +1,6 @@
 ghost use Rattle.std.specs.Prelude.{◌≡◌, ◌≢◌, ◌∷◌, [], false, None, IfOk, IsTrue, MatchBool, MatchOption, MatchResult};
 ghost use Rattle.bp_types.specs.declared.command.Command.TheVariants.{Group};
+ghost use Rattle.bp_flow.specs.Solvers.{CountsUpTo};
 ghost use Rattle.bp_core.specs.declared.line.Act.TheVariants.{Do as DoAct, Publish as PublishAct};
 ghost use Rattle.bp_core.specs.declared.line.Reply.TheVariants.{Vector};
 ghost use Rattle.bp_core.specs.declared.call.Call.TheVariants.{Do};
@@ -7,8 +8,8 @@ ghost use Rattle.bp_core.specs.Acting.{MayCall, act_of};
 ghost use Rattle.bp_core.specs.Callers.{may_log};
 ghost use Rattle.bp_core.specs.Legal.{opens, is_in_range};
 ghost use Rattle.bp_judge.specs.Judging.{IsFirstCause, IsJudged};
-ghost use Rattle.bp_judge.specs.Replays.{IsReplay, HasRead, IsAsked, IsPlain, IsOther};
-ghost use Rattle.bp_judge.specs.Searches.{is_group, HasNoGroup};
+ghost use Rattle.bp_judge.specs.Replays.{IsReplay, HasRead, GoesOn, IsAsked, IsPlain, IsOther};
+ghost use Rattle.bp_judge.specs.Searches.{is_group, HasNoGroup, searches_of, most_searches};
 
 use crate::certified::certified;
 use crate::course::Course;
@@ -30,7 +31,9 @@ pub(crate) struct Replay {
 /// Judges a journal: whether it is a legal history of the house, or the first place that breaks a rule,
 /// with the first rule that it breaks.
 ///
-/// Each certificate moves into the board that it makes. Where there is no Group, no search is made.
+/// Each certificate moves into the board that it makes. Where there is no Group, no search is made; else a solver
+/// is carried from one Group to the next where few units were moved in between, and only where many were is the
+/// instance solved from nothing.
 pub fn judge<L: Ledger>(
     alloc: Global,
     house: House,
@@ -39,6 +42,7 @@ pub fn judge<L: Ledger>(
 ) -> Result<Judgement, Memory>
     ensures judged { IfOk result (IsJudged house journal) }
     ensures unsearched { HasNoGroup journal → steps.new ≡ steps.old }
+    ensures counted { CountsUpTo steps.old steps.new (most_searches house journal) }
 {
     judge_lines(alloc, house, journal.into_lines(), steps)
 }
@@ -52,6 +56,7 @@ fn judge_lines<L: Ledger>(
 ) -> Result<Judgement, Memory>
     ensures judged { IfOk result (IsJudged house lines) }
     ensures unsearched { HasNoGroup lines → steps.new ≡ steps.old }
+    ensures counted { CountsUpTo steps.old steps.new (most_searches house lines) }
 {
     let Some(first) = lines.next() else {
         return Ok(Judgement::NotLegal {
@@ -111,6 +116,7 @@ impl Replay {
         requires { IsReplay self.old }
         ensures read { IfOk result (HasRead self.old self.new line) }
         ensures unsearched { is_group line.entry.act ≡ false → steps.new ≡ steps.old }
+        ensures counted { CountsUpTo steps.old steps.new (searches_of self.old.book.house self.old.book.history line.entry.act) }
     {
         let caller = line.entry.caller;
         if !self.book.may_log(caller, line.entry.act) {
@@ -141,6 +147,7 @@ impl Replay {
         requires range { IsTrue (is_in_range self.old.book.house line.now.entry.act) }
         ensures read { IfOk result (HasRead self.old self.new line.now) }
         ensures unsearched { is_group (DoAct command) ≡ false → steps.new ≡ steps.old }
+        ensures counted { CountsUpTo steps.old steps.new (searches_of self.old.book.house self.old.book.history (DoAct command)) }
     {
         bp_core::law::last_line_is_legal();
         bp_core::law::one_reply();
@@ -163,8 +170,9 @@ impl Replay {
         requires replay { IsReplay self.old }
         requires may { MayCall self.old.book caller (Do command None) }
         ensures asked { IfOk result (IsAsked self.old.book self.new.book caller command) }
-        ensures replay { IfOk result (λ _. IsReplay self.new) }
+        ensures replay { IfOk result (GoesOn self.new) }
         ensures unsearched { is_group (DoAct command) ≡ false → steps.new ≡ steps.old }
+        ensures counted { CountsUpTo steps.old steps.new (searches_of self.old.book.house self.old.book.history (DoAct command)) }
     {
         bp_core::law::answers_say();
         match command {
@@ -192,7 +200,8 @@ impl Replay {
         requires replay { IsReplay self.old }
         requires may { MayCall self.old.book caller (Do (Group span rooms amount) None) }
         ensures asked { IfOk result (IsAsked self.old.book self.new.book caller (Group span rooms amount)) }
-        ensures replay { IfOk result (λ _. IsReplay self.new) }
+        ensures replay { IfOk result (GoesOn self.new) }
+        ensures counted { CountsUpTo steps.old steps.new (searches_of self.old.book.house self.old.book.history (DoAct (Group span rooms amount))) }
     {
         bp_core::law::answers_say();
         let command = Command::Group {

@@ -1,10 +1,11 @@
-ghost use Rattle.std.specs.Prelude.{◌≡◌, ◌+◌, ◌*◌, ◌≤◌, length, IfOk, MatchBool};
+ghost use Rattle.std.specs.Prelude.{◌≡◌, ◌+◌, ◌≤◌, length, IfOk, MatchBool};
 ghost use Rattle.bp_types.specs.Changes.{Leads};
 ghost use Rattle.bp_warm.specs.Turns.{units_moved_by_all};
 ghost use Rattle.bp_flow.specs.Settled.{IsSettled};
 ghost use Rattle.bp_flow.specs.Solvers.{CountsUpTo};
-ghost use Rattle.bp_judge.specs.declared.solved.TheConstants.{MOST_MOVED};
+ghost use Rattle.bp_flow.specs.Rising.{searches_from_nothing};
 ghost use Rattle.bp_judge.specs.Courses.{IsCourse};
+ghost use Rattle.bp_judge.specs.Searches.{most_moved, moved_between};
 ghost use Rattle.bp_judge.specs.Trails.{IsSolvedAt};
 
 use crate::course::Course;
@@ -35,6 +36,7 @@ impl Solved {
         ensures course { IfOk result (λ s. s.course ≡ course) }
         ensures program { IfOk result (λ s. s.solver.flow.program ≡ course.instance) }
         ensures settled { IfOk result (λ s. IsSettled s.solver) }
+        ensures counted { CountsUpTo steps.old steps.new (searches_from_nothing course.instance) }
     {
         let solver = Solver::cold(alloc, &course.instance, steps)?;
         Ok(Solved { solver, course })
@@ -51,7 +53,8 @@ impl Solved {
         ensures course { IsCourse book.now.house book.now.history self.new.course }
         ensures within { self.new.course.position ≤ until }
         ensures reached { MatchBool result (IsSolvedAt book.now.house book.now.history self.new × (self.new.course.position ≡ until)) (IsCourse book.now.house book.now.history self.new.course) }
-        ensures counted { CountsUpTo steps.old steps.new (book.now.house.limits.unit * MOST_MOVED) }
+        ensures counted { CountsUpTo steps.old steps.new (most_moved book.now.house) }
+        ensures caught_up { MatchBool result (CountsUpTo steps.old steps.new (moved_between book.now.house book.now.history self.old.course.position until)) (most_moved book.now.house ≤ moved_between book.now.house book.now.history self.old.course.position until) }
     {
         let mut left = u128::from(book.house().limits().unit * MOST_MOVED);
         while self.course.position < until {

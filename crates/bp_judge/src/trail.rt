@@ -1,9 +1,11 @@
-ghost use Rattle.std.specs.Prelude.{◌≡◌, ◌≤◌, None, length, IfOk};
+ghost use Rattle.std.specs.Prelude.{◌≡◌, ◌+◌, ◌≤◌, Some, None, length, IfOk};
 ghost use Rattle.bp_types.specs.Spans.{IsSpanWithin, first_short};
 ghost use Rattle.bp_types.specs.declared.command.Command.TheVariants.{Group};
+ghost use Rattle.bp_flow.specs.Solvers.{CountsUpTo};
 ghost use Rattle.bp_core.specs.Acting.{IsQuoteFor};
 ghost use Rattle.bp_core.specs.Instance.{rooms_left_at};
-ghost use Rattle.bp_judge.specs.Trails.{GoesWith, IsSolvedAt};
+ghost use Rattle.bp_judge.specs.Searches.{searches_to_solve, searches_to_quote};
+ghost use Rattle.bp_judge.specs.Trails.{GoesWith, IsSolvedAt, quoted_at};
 
 use crate::course::Course;
 use crate::solved::Solved;
@@ -38,7 +40,9 @@ impl Trail {
         ensures right { IfOk result (λ q. IsQuoteFor book.now.house book.now.history (Group span rooms amount) q) }
         ensures newest { IfOk result (λ q. q.position ≡ length book.now.history) }
         ensures goes { IfOk result (λ _. GoesWith book.now.house book.now.history self.new) }
+        ensures at { IfOk result (λ _. quoted_at self.new ≡ Some (length book.now.history)) }
         ensures course { IfOk result (λ _. self.new.course ≡ self.old.course) }
+        ensures counted { CountsUpTo steps.old steps.new (searches_to_solve book.now.house book.now.history (quoted_at self.old) + searches_to_quote book.now.house rooms) }
     {
         let solved = self.solved_now(alloc, book, steps)?;
         let units = book.house().limits().unit * rooms;
@@ -71,6 +75,7 @@ impl Trail {
         ensures solved { IfOk result (IsSolvedAt book.now.house book.now.history) }
         ensures newest { IfOk result (λ s. s.course.position ≡ length book.now.history) }
         ensures course { self.new.course ≡ self.old.course }
+        ensures counted { CountsUpTo steps.old steps.new (searches_to_solve book.now.house book.now.history (quoted_at self.old)) }
     {
         let until = book.length();
         let mut course = match self.solved.take() {

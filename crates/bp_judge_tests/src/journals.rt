@@ -22,7 +22,7 @@ pub(crate) type Setting = ([u64; 3], [u64; 4], Limits);
 /// A house, the lines, and the first place with a cause, if there is one.
 pub(crate) type Case = (Setting, &'static [Row], Option<(u64, Cause)>);
 
-const TIGHT: Setting = (
+pub(crate) const TIGHT: Setting = (
     [0, 0, 0],
     [3, 1, 1, 5],
     Limits {
@@ -44,7 +44,7 @@ const SOLD: Setting = (
     },
 );
 
-const WIDE: Setting = (
+pub(crate) const WIDE: Setting = (
     [0, 0, 0],
     [3, 1, 1, 5],
     Limits {

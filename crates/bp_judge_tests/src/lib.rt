@@ -5,3 +5,5 @@
 mod journals;
 #[cfg(test)]
 mod tests;
+#[cfg(test)]
+mod texts;

@@ -23,12 +23,13 @@ pub struct Draft {
 
 impl Model for Draft {
     ghost use Rattle.std.specs.Prelude.{◌≤◌, ℕ, List, length};
+    ghost use Rattle.bp_edges.specs.declared.sink.TheConstants.{MOST_PIECE};
 
     ghost Value = { List ℕ };
 
     ghost view = { λ d. d.bytes.items };
 
-    ghost invariant = { λ d. length d.bytes.items ≤ 65536 };
+    ghost invariant = { λ d. length d.bytes.items ≤ MOST_PIECE };
 }
 
 impl Draft {

@@ -21,8 +21,6 @@ mod found;
 mod numbers;
 mod read;
 mod spell;
-#[cfg(test)]
-mod tests;
 mod text_error;
 mod words;
 mod write;

@@ -2,12 +2,18 @@ use Rattle.std.proofs.Common.{◌∙◌, subst, Option}
 use Rattle.bp_judge.specs.declared.judgement.Cause.{Cause}
 use Rattle.bp_judge.specs.Replays.{HasRead}
 use Rattle.bp_judge.proofs.Ends.{found, none_here, one_more}
+use Rattle.bp_judge.proofs.Counting.{counts_stop, counts_on}
 use Rattle.bp_judge.proofs.replay.judge_lines.Goals as goal
 
 pub returns-in_err-cause-clause-unsearched : goal.returns-in_err-cause-clause-unsearched
 returns-in_err-cause-clause-unsearched g c =
     let here = c.loop-line.invariant in
     λ none. c.read.ensures.unsearched (none_here c.loop-line.replay.book.history c.loop-line.lines c.next-in-loop-line.new.self c.args.lines c.in-Some-next.line here.read c.in-Some-next.ensures none) ∙ here.unsearched none
+
+pub returns-in_err-cause-clause-counted : goal.returns-in_err-cause-clause-counted
+returns-in_err-cause-clause-counted g c =
+    let here = c.loop-line.invariant in
+    counts_stop c.args.house c.loop-line.replay.book c.args.lines c.loop-line.lines c.next-in-loop-line.new.self c.in-Some-next.line c.args.steps.now c.loop-line.steps c.read.new.steps here.house here.read c.in-Some-next.ensures here.counted c.read.ensures.counted
 
 pub returns-in-Some-2-clause-judged : goal.returns-in-Some-2-clause-judged
 returns-in-Some-2-clause-judged g c =
@@ -21,6 +27,11 @@ returns-in-Some-2-clause-unsearched g c =
     let here = c.loop-line.invariant in
     λ none. c.read.ensures.unsearched (none_here c.loop-line.replay.book.history c.loop-line.lines c.next-in-loop-line.new.self c.args.lines c.in-Some-next.line here.read c.in-Some-next.ensures none) ∙ here.unsearched none
 
+pub returns-in-Some-2-clause-counted : goal.returns-in-Some-2-clause-counted
+returns-in-Some-2-clause-counted g c =
+    let here = c.loop-line.invariant in
+    counts_stop c.args.house c.loop-line.replay.book c.args.lines c.loop-line.lines c.next-in-loop-line.new.self c.in-Some-next.line c.args.steps.now c.loop-line.steps c.read.new.steps here.house here.read c.in-Some-next.ensures here.counted c.read.ensures.counted
+
 pub loop-line-preserved : goal.loop-line-preserved
 loop-line-preserved g c =
     let here = c.loop-line.invariant in
@@ -31,4 +42,6 @@ loop-line-preserved g c =
       house = more.1;
       read = more.2;
       unsearched = λ none. c.read.ensures.unsearched (none_here c.loop-line.replay.book.history c.loop-line.lines c.next-in-loop-line.new.self c.args.lines c.in-Some-next.line here.read c.in-Some-next.ensures none) ∙ here.unsearched none;
+      counted = counts_on c.args.house c.loop-line.replay c.read.new.self c.args.lines c.loop-line.lines c.next-in-loop-line.new.self c.in-Some-next.line c.args.steps.now c.loop-line.steps c.read.new.steps here.house here.read c.in-Some-next.ensures
+          (subst P c.in_default-2.is c.in_ok-cause.ensures.read).1 here.counted c.read.ensures.counted;
     }

@@ -1,15 +1,18 @@
+//! Journals: each refusal at its line, the entry that each line tells, and what is written of a book.
+
 ghost use Rattle.std.specs.Prelude.{◌≡◌, IfOk};
 ghost use Rattle.std.specs.Arc.{arc_value};
 ghost use Rattle.bp_types.specs.Claim.{IsCertificateOf};
 ghost use Rattle.bp_types.specs.House.{opening};
 
-use super::*;
+use crate::lines::{text_of, text_with};
 use bp_board::Board;
 use bp_cert::{Verdict, check};
 use bp_core::{Act, Book, Entry, Reply};
 use bp_edges::MemorySink;
+use bp_journal::{TextError, read, write};
 use bp_types::{Certificate, Command, House, Limits, Span, Stay};
-use std::alloc::{AllocError, Global};
+use std::alloc::Global;
 use std::sync::Arc;
 use std::test::Fail;
 
@@ -35,25 +38,6 @@ const JOURNAL: [&str; 19] = [
     "prices 60 40 40",
     "end",
 ];
-
-// These lines, with another one in the place of one of them, which is counted from 1.
-fn text_with(
-    alloc: Global,
-    lines: &[&str],
-    place: usize,
-    other: &str,
-) -> Result<Vec<u8>, AllocError> {
-    let mut text = Vec::new(alloc);
-    for (line, before) in lines.iter().zip(0..lines.len()) {
-        if before.wrapping_add(1) == place {
-            text.extend_from_slice(other.as_bytes())?;
-        } else {
-            text.extend_from_slice(line.as_bytes())?;
-        }
-        text.push(b'\n')?;
-    }
-    Ok(text)
-}
 
 // A line in place of another, and what is refused then.
 const REFUSALS: [(usize, &str, Option<TextError>); 24] = [
@@ -174,7 +158,7 @@ fn a_journal_that_is_cut_is_too_short_and_one_byte_more_trails(
     rt: HostRuntime,
 ) -> Result<(), Fail> {
     let alloc = rt.alloc();
-    let mut text = text_with(alloc, &JOURNAL, 0, "")?;
+    let mut text = text_of(alloc, &JOURNAL)?;
     for length in 0..text.len() {
         let (cut, _) = text.split_at(length);
         assert!(rt;

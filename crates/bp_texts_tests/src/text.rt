@@ -1,5 +1,7 @@
-use super::*;
+//! Drafts of several pieces, and words and digits on a few lines.
+
 use bp_edges::{MemorySink, WriteError};
+use bp_text::{Draft, Number, Words, digits, number, push_line, push_wide_line};
 use std::test::Fail;
 
 // The last number that fits 128 bits.

@@ -1,4 +1,7 @@
-use super::*;
+//! Problems and certificates: each refusal at its line, what is written, and each verdict.
+
+use crate::lines::{text_of, text_with};
+use bp_cert::{TextError, Verdict, check, read_certificate, read_problem, write_certificate};
 use bp_edges::MemorySink;
 use bp_types::{Certificate, Instance};
 use std::alloc::{AllocError, Global};
@@ -23,29 +26,6 @@ const CERTIFICATE: [&str; 5] = [
     "prices 0 100 40",
     "end",
 ];
-
-// These lines, with another one in the place of one of them, which is counted from 1.
-fn text_with(
-    alloc: Global,
-    lines: &[&str],
-    place: usize,
-    other: &str,
-) -> Result<Vec<u8>, AllocError> {
-    let mut text = Vec::new(alloc);
-    for (line, before) in lines.iter().zip(0..lines.len()) {
-        if before.wrapping_add(1) == place {
-            text.extend_from_slice(other.as_bytes())?;
-        } else {
-            text.extend_from_slice(line.as_bytes())?;
-        }
-        text.push(b'\n')?;
-    }
-    Ok(text)
-}
-
-fn text_of(alloc: Global, lines: &[&str]) -> Result<Vec<u8>, AllocError> {
-    text_with(alloc, lines, 0, "")
-}
 
 // A line in place of another, and what is refused then.
 const PROBLEMS: [(usize, &str, Option<TextError>); 31] = [

@@ -1,5 +1,5 @@
 -- The newest vector, as histories grow.
-use Rattle.std.proofs.Common.{◌≡◌, ◌≢◌, ℕ, ◌<◌, ◌≤◌, Bool, true, false, nat_lt, cond, List, [], ◌∷◌, ◌++◌, length, Some, refl, sym, ap, subst, ◌∙◌, arith, slice_get, zero, suc, ◌==◌, ◌⊎◌, inl, inr, append-nil, append_assoc, eq-eqb}
+use Rattle.std.proofs.Common.{◌≡◌, ◌≢◌, ℕ, ◌<◌, ◌≤◌, Bool, true, false, nat_lt, cond, List, [], ◌∷◌, ◌++◌, length, Some, refl, sym, ap, subst, ◌∙◌, arith, slice_get, zero, suc, ◌==◌, ◌⊎◌, inl, inr, eq-eqb}
 use Rattle.std.proofs.lemmas.List.Elements.{filter_map-append}
 use Rattle.std.proofs.lemmas.Option.{slice_get_within}
 use Rattle.std.proofs.lemmas.Bool.{eqb-true, ltb-true, ltb-false}
@@ -7,9 +7,9 @@ use Rattle.bp_types.specs.House.{Inn}
 use Rattle.bp_types.specs.Prices.{SumUp}
 use Rattle.bp_board.specs.Posted.{Posted}
 use Rattle.bp_turn.specs.Prefix.{IsPrefix, longer}
-use Rattle.bp_core.specs.Lines.{History, is_publish, vectors, boards, posted, last_number, last_position, last_prices}
+use Rattle.bp_core.specs.Lines.{History, boards, posted, last_number, last_position, last_prices}
 use Rattle.bp_core.specs.Legal.{IsLegal}
-use Rattle.bp_core.proofs.Pushes.{count-push}
+use Rattle.bp_core.proofs.Growing.{number_never_falls}
 use Rattle.bp_core.proofs.Vectors.{last_board_is_last}
 use Rattle.bp_desk.specs.Newest.{Vector, IsNewest}
 
@@ -32,18 +32,6 @@ same_last h G H before after (rest, is) same =
     (subst (λ K. slice_get K (last_number G) ≡ Some a.board) (sym (filter_map-append posted G rest) ∙ ap boards (sym is)) (found_before (boards G) (boards rest) (last_number G) a.board a.last)) in
     let one : a.board ≡ b.board = same_some a.board b.board (sym there ∙ b.last) in
     (sym a.position ∙ ap (λ (p : Posted). p.position) one ∙ b.position, sym a.prices ∙ ap (λ (p : Posted). p.certificate.prices) one ∙ b.prices)
-
-no_fewer : (xs rest : History) → vectors xs ≤ vectors (xs ++ rest)
-no_fewer xs [] = let e = ap vectors (append-nil xs) in omega (arith, e)
-no_fewer xs (x ∷ rest) =
-    let e = ap vectors (append_assoc xs (x ∷ []) rest) in
-    let one = count-push is_publish xs x in
-    let le = no_fewer (xs ++ x ∷ []) rest in
-    omega (arith, e, one, le)
-
--- there are no fewer vectors later
-pub more_vectors : (G H : History) → IsPrefix G H → last_number G ≤ last_number H
-more_vectors G H (rest, is) = let e = ap vectors is in let le = no_fewer G rest in omega (arith, e, le)
 
 -- the newest vector of a history is that of a longer one with as many
 pub newest_still : (h : Inn) (G H : History) (v : Vector) → IsLegal h G → IsLegal h H → IsPrefix G H → last_number G ≡ last_number H → IsNewest h G v → IsNewest h H v
@@ -83,19 +71,19 @@ by_order m n P less more = go (nat_lt m n) refl
 pub newer : (h : Inn) (G H K : History) (v w u : Vector) → IsLegal h G → IsLegal h H → IsLegal h K → IsPrefix G K → IsPrefix H K → (K ≡ G) ⊎ (K ≡ H) →
     IsNewest h G v → IsNewest h H w → (v.number < w.number → u ≡ w) → (w.number ≤ v.number → u ≡ v) → IsNewest h K u
 newer h G H K v w u legal_g legal_h legal_k from_g from_h which knows_g knows_h less more =
-    let g = more_vectors G K from_g in let k = more_vectors H K from_h in
+    let g = number_never_falls G K from_g in let k = number_never_falls H K from_h in
     let a = knows_g.number_is in let b = knows_h.number_is in
     by_order v.number w.number (IsNewest h K u)
     (λ lt. subst (IsNewest h K) (sym (less lt)) (newest_still h H K w legal_h legal_k from_h (of_second which lt g a b) knows_h))
     (λ le. subst (IsNewest h K) (sym (more le)) (newest_still h G K v legal_g legal_k from_g (of_first which le k a b) knows_g))
   where
     of_second : (K ≡ G) ⊎ (K ≡ H) → v.number < w.number → last_number G ≤ last_number K → v.number ≡ last_number G → w.number ≡ last_number H → last_number H ≡ last_number K
-    of_second (inl e) lt g a b = let n = ap last_number e in let k = more_vectors H K from_h in omega (arith, n, lt, g, a, b, k)
+    of_second (inl e) lt g a b = let n = ap last_number e in let k = number_never_falls H K from_h in omega (arith, n, lt, g, a, b, k)
     of_second (inr e) lt g a b = sym (ap last_number e)
 
     of_first : (K ≡ G) ⊎ (K ≡ H) → w.number ≤ v.number → last_number H ≤ last_number K → v.number ≡ last_number G → w.number ≡ last_number H → last_number G ≡ last_number K
     of_first (inl e) le k a b = sym (ap last_number e)
-    of_first (inr e) le k a b = let n = ap last_number e in let g = more_vectors G K from_g in omega (arith, n, le, g, a, b, k)
+    of_first (inr e) le k a b = let n = ap last_number e in let g = number_never_falls G K from_g in omega (arith, n, le, g, a, b, k)
 
 -- the longer of two lists is the one or the other
 pub one_of_two : (G H : History) → (longer G H ≡ G) ⊎ (longer G H ≡ H)

@@ -64,6 +64,7 @@ impl Desk {
         let book = Book::new(alloc, house, board)?;
         let _length = book.length();
         let newest = Newest::of(alloc, &book)?;
+        let book = Box::new(alloc, book)?;
         match Turn::new(alloc, Shared { book }) {
             Ok((turn, seat)) => Ok((
                 Desk { turn },
@@ -234,7 +235,7 @@ impl Desk {
         } = pass;
         let shared = self.turn.take(rt, &mut seat);
         seat.facts();
-        let Shared { book } = shared;
+        let book = Box::into_inner(shared.book);
         let _length = book.length();
         book
     }

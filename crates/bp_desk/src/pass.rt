@@ -1,7 +1,8 @@
 ghost use Rattle.std.specs.Prelude.{◌≡◌, ◌≤◌, length, All, IsTrue};
 ghost use Rattle.bp_types.specs.Program.{price};
 ghost use Rattle.bp_types.specs.Spans.{IsSpanWithin};
-ghost use Rattle.bp_core.specs.Lines.{calls, last_number, last_position, last_prices};
+ghost use Rattle.bp_turn.specs.Prefix.{IsPrefix};
+ghost use Rattle.bp_core.specs.Lines.{History, calls, last_number, last_position, last_prices};
 ghost use Rattle.bp_core.specs.Callers.{may_act, has_left};
 ghost use Rattle.bp_core.specs.Legal.{IsLegal};
 ghost use Rattle.bp_desk.specs.Passes.{HasAccounts};
@@ -61,6 +62,7 @@ impl Pass {
     pub fn quote(&self, span: Span) -> Quote
         requires { IsSpanWithin (length self.now.house.rooms) span }
         ensures number { result.number ≡ last_number self.now.seen }
+        ensures never_falls { (before : History) → IsPrefix before self.now.seen → last_number before ≤ result.number }
         ensures position { result.position ≡ last_position self.now.seen }
         ensures sum { result.sum ≡ price (last_prices self.now.seen) span }
     {

@@ -4,7 +4,7 @@ ghost use Rattle.bp_types.specs.Changes.{Leads};
 ghost use Rattle.bp_core.specs.declared.line.Line.{Line};
 ghost use Rattle.bp_core.specs.Lines.{last_position};
 ghost use Rattle.bp_core.specs.Changes.{changes_after, deltas_between};
-ghost use Rattle.bp_core.specs.Callers.{greatest_caller, left_of};
+ghost use Rattle.bp_core.specs.Callers.{left_of};
 ghost use Rattle.bp_core.specs.Instance.{instance_at};
 ghost use Rattle.bp_desk.specs.Calling.{HasRead};
 
@@ -106,7 +106,6 @@ impl Desk {
     /// How many of the callers from 1 to a number have left.
     pub fn left<R: Wait>(&self, rt: &R, pass: &mut Pass, sessions: u32) -> u32
         requires desk { pass.old.desk ≡ self.now }
-        requires sessions { sessions ≤ greatest_caller }
         ensures read { HasRead pass.old pass.new }
         ensures left { result ≡ left_of pass.new.seen sessions }
     {

@@ -4,9 +4,11 @@ use bp_types::House;
 use std::marker::Model;
 
 /// The book under the lock: its house never changes, and its history only grows. Contracts see the book.
+///
+/// It stands in a box, so that a turn moves no more than a pointer.
 #[derive(Drop)]
 pub(crate) struct Shared {
-    pub(crate) book: Book,
+    pub(crate) book: Box<Book>,
 }
 
 impl Model for Shared {
@@ -14,7 +16,7 @@ impl Model for Shared {
 
     ghost Value = { Diary };
 
-    ghost view = { λ s. s.book };
+    ghost view = { λ s. s.book.value };
 
     ghost invariant = { λ s. Unit {0} };
 }

@@ -6,6 +6,7 @@ use Rattle.std.proofs.lemmas.List.Elements.{filter-append}
 use Rattle.std.proofs.lemmas.Bool.{ltb-true, ltb-false, eqb-true}
 use Rattle.std.specs.Arc.{arc_value}
 use Rattle.std.proofs.Math.Seq.{take-length}
+use Rattle.bp_types.specs.declared.limits.TheConstants.{CALLERS}
 use Rattle.bp_types.specs.House.{Inn}
 use Rattle.bp_types.specs.Claim.{Claim}
 use Rattle.bp_types.specs.Optimum.{AreLeastPrices}
@@ -52,9 +53,9 @@ ended_calls H ended c es all (at, lt, is) = subst (λ (x : ℕ × History). call
 
 -- a caller above the last has no entry
 pub none_above : (most : ℕ) (p : PassState) → HasAllBack most p → HasAccounts p → (c : ℕ) → most < c → calls p.seen c ≡ []
-none_above most p b a c high = dite (dec_le 64 c)
+none_above most p b a c high = dite (dec_le CALLERS c)
     (λ le. a.others c le)
-    (λ lt. let few = b.few in free_none p.seen (most + 1) (64 - (most + 1)) c (subst (All (λ (n : ℕ). calls p.seen n ≡ [])) b.free a.free) (omega (arith, high)) (omega (arith, lt, few)))
+    (λ lt. let few = b.few in free_none p.seen (most + 1) (CALLERS - (most + 1)) c (subst (All (λ (n : ℕ). calls p.seen n ≡ [])) b.free a.free) (omega (arith, high)) (omega (arith, lt, few)))
 
 pub all_back : (most : ℕ) (p q : PassState) → HasAllBack most p → q.caller ≡ p.caller → q.free ≡ p.free → q.ended ≡ p.ended → HasAllBack most q
 all_back most p q b caller free ended = record {

@@ -4,6 +4,7 @@ use mathlib.Core.Logic.{dite}
 use native.Mathlib.Decide.{dec_le}
 use Rattle.std.proofs.lemmas.Bool.{and_parts, leb-true}
 use Rattle.atomic_table.specs.Seated.{TableId}
+use Rattle.bp_types.specs.declared.limits.TheConstants.{CALLERS}
 use Rattle.bp_types.specs.House.{Inn, IsHouse}
 use Rattle.bp_types.specs.declared.command.Command.{Command}
 use Rattle.bp_turn.specs.Prefix.{IsPrefix}
@@ -16,6 +17,7 @@ use Rattle.bp_core.specs.Acting.{Diary, line_of}
 use Rattle.bp_core.specs.Legal.{IsLegal}
 use Rattle.bp_desk.specs.Passes.{PassState, HasAccounts, opener}
 use Rattle.bp_optimise.specs.declared.round.Round.{Round}
+use Rattle.bp_desk_run.specs.declared.actor.TheConstants.{MOST_ACTORS}
 use Rattle.bp_desk_run.specs.DeskRun.{lead_of, script_of, IsDeskRun, IsComplete, IsClosed, IsCut}
 use Rattle.bp_optimise.specs.declared.sessions.Stop.{Stop}
 use Rattle.bp_optimise.specs.declared.sessions.Stop.TheVariants.{Finished, Memory}
@@ -50,7 +52,7 @@ some_actor (x ∷ xs) lt = x
 positive_lead : (n : ℕ) → 1 ≤ n → 1 ≤ (n + 1) / 2
 positive_lead n le = omega (arith, le)
 
-pub terms : (house : Inn) (sessions : ℕ) → IsHouse house → sessions ≤ 48 → AreTerms house sessions ((house.limits.stale_after + 1) / 2) house.limits.unit
+pub terms : (house : Inn) (sessions : ℕ) → IsHouse house → sessions ≤ MOST_ACTORS → AreTerms house sessions ((house.limits.stale_after + 1) / 2) house.limits.unit
 terms house sessions is few = record {
   lead_is = refl;
   some_lead = positive_lead house.limits.stale_after (leb-true _ _ (and_parts _ _ is.stale_after).0);
@@ -59,13 +61,13 @@ terms house sessions is few = record {
 }
 
 -- nobody above the last number has an entry
-none_above : (n : ℕ) (p : PassState) → n ≤ 48 → p.free ≡ numbers_from (n + 1) (64 - (n + 1)) → HasAccounts p → (c : ℕ) → n < c → calls p.seen c ≡ []
-none_above n p few free a c high = dite (dec_le 64 c)
+none_above : (n : ℕ) (p : PassState) → n ≤ MOST_ACTORS → p.free ≡ numbers_from (n + 1) (CALLERS - (n + 1)) → HasAccounts p → (c : ℕ) → n < c → calls p.seen c ≡ []
+none_above n p few free a c high = dite (dec_le CALLERS c)
     (λ le. a.others c le)
-    (λ lt. free_none p.seen (n + 1) (64 - (n + 1)) c (subst (All (λ (k : ℕ). calls p.seen k ≡ [])) free a.free) (omega (arith, high)) (omega (arith, lt, few)))
+    (λ lt. free_none p.seen (n + 1) (CALLERS - (n + 1)) c (subst (All (λ (k : ℕ). calls p.seen k ≡ [])) free a.free) (omega (arith, high)) (omega (arith, lt, few)))
 
 -- once all have enrolled and met, the history is the Enrols in order
-pub begun : (desk : TableId) (house : Inn) (o : Line) (n : ℕ) (op0 op1 : PassState) → op0 ≡ opener desk house o → OpensWith house o → HasEnrolledAll n op0 op1 → HasAccounts op1 → n ≤ 48
+pub begun : (desk : TableId) (house : Inn) (o : Line) (n : ℕ) (op0 op1 : PassState) → op0 ≡ opener desk house o → OpensWith house o → HasEnrolledAll n op0 op1 → HasAccounts op1 → n ≤ MOST_ACTORS
     → ((c : ℕ) → 1 ≤ c → c ≤ n → calls op1.seen c ≡ line_of c Enrol Done ∷ []) → op1.seen ≡ first_lines o n
 begun desk house o n op0 op1 is opens e accounts few own =
     let caller : op1.caller ≡ 0 = e.caller ∙ ap (λ (p : PassState). p.caller) is in
@@ -79,7 +81,7 @@ pub record HasParts (desk : TableId) (house : Inn) (sessions n : ℕ) (o : Line)
   pub enrolled : HasEnrolledAll n op0 op1
   pub met : op2 ≡ op1
   pub accounts : HasAccounts op2
-  pub few : n ≤ 48
+  pub few : n ≤ MOST_ACTORS
   pub own : (c : ℕ) → 1 ≤ c → c ≤ n → calls op1.seen c ≡ line_of c Enrol Done ∷ []
   pub back : HasJoined op2 op3
   pub callers : length xs ≡ n
@@ -183,7 +185,7 @@ cut_run house scripts workers G H xs round finished r closing f many is =
 keep_on : (xs ys zs : List Actor) → KeepCommands xs ys → KeepCommands ys zs → KeepCommands xs zs
 keep_on xs ys zs a b = (b.0 ∙ a.0, λ i d lt. b.1 i d (let e = a.0 in omega (arith, e, lt)) ∙ a.1 i d lt)
 
-pub parts : (desk : TableId) (house : Inn) (sessions lead unit : ℕ) (xs0 xs1 xs2 xs3 : List Actor) (o : Line) (op0 op1 op2 op3 : PassState) → OpensWith house o → op0 ≡ opener desk house o → length xs0 ≤ 48 → HasEnrolledAll (length xs0) op0 op1
+pub parts : (desk : TableId) (house : Inn) (sessions lead unit : ℕ) (xs0 xs1 xs2 xs3 : List Actor) (o : Line) (op0 op1 op2 op3 : PassState) → OpensWith house o → op0 ≡ opener desk house o → length xs0 ≤ MOST_ACTORS → HasEnrolledAll (length xs0) op0 op1
     → AreReady desk op0.house sessions op1.seen xs1 → KeepCommands xs0 xs1 → op2 ≡ op1
     → ((h : Inn) (s : ℕ) → AreReady desk h s op1.seen xs1 → AreReady desk h s op1.seen xs2 × ((c : ℕ) → 1 ≤ c → c ≤ length xs1 → calls op1.seen c ≡ line_of c Enrol Done ∷ [])) → KeepCommands xs1 xs2 → HasAccounts op2
     → ((h : Inn) (seen : History) → AreReady desk h sessions seen xs2 → AreTerms h sessions lead unit → HaveRun desk h sessions xs3) → KeepCommands xs2 xs3 → AreTerms house sessions lead unit → HasJoined op2 op3

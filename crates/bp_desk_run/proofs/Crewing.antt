@@ -4,6 +4,7 @@ use mathlib.Core.Logic.{dite}
 use native.Mathlib.Decide.{ℕ_discrete}
 use Rattle.std.proofs.lemmas.Grind.{common_steps}
 use Rattle.atomic_table.specs.Seated.{TableId}
+use Rattle.bp_types.specs.declared.limits.TheConstants.{CALLERS}
 use Rattle.bp_types.specs.House.{Inn}
 use Rattle.bp_turn.specs.Prefix.{IsPrefix}
 use Rattle.bp_turn.specs.Callers.{numbers_from}
@@ -93,7 +94,7 @@ keep_set init xs k x d lt kept same = (
 )
 
 -- the opener's pass before anybody enrolled, and one caller later
-pub enrolled_none : (p : PassState) → p.free ≡ numbers_from 1 63 → HasEnrolledAll 0 p p
+pub enrolled_none : (p : PassState) → p.free ≡ numbers_from 1 (CALLERS - 1) → HasEnrolledAll 0 p p
 enrolled_none p free = record { desk = refl; house = refl; caller = refl; calls = refl; ended = refl; free = free; order = λ o is. subst (HasInOrder (o ∷ [])) (sym is) (one_in_order o) }
 
 lines_more : (o : Line) (i : ℕ) → first_lines o i ++ line_of (i + 1) Enrol Done ∷ [] ≡ first_lines o (i + 1)

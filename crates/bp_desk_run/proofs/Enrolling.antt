@@ -5,6 +5,7 @@ use Rattle.std.proofs.Math.Seq.{get_or-append_seam}
 use Rattle.std.proofs.lemmas.Bool.{ltb-true, lt-ltb}
 use Rattle.std.proofs.lemmas.List.Elements.{All-nil}
 use Rattle.atomic_table.specs.Seated.{TableId}
+use Rattle.bp_types.specs.declared.limits.TheConstants.{CALLERS}
 use Rattle.bp_types.specs.House.{Inn, opening}
 use Rattle.bp_types.specs.declared.command.Command.{Command}
 use Rattle.bp_types.specs.Program.{Program}
@@ -56,10 +57,10 @@ rest_of : (m n : ℕ) (xs ys : List ℕ) → m ∷ xs ≡ n ∷ ys → xs ≡ ys
 rest_of m n xs ys e = cc
 
 -- what an enrolment hands out is the next number
-pub next_number : (free : List ℕ) (number caller : ℕ) (rest : List ℕ) → number < 64 → free ≡ numbers_from number (64 - number) → free ≡ caller ∷ rest
-    → (caller ≡ number) × (rest ≡ numbers_from (number + 1) (64 - (number + 1)))
+pub next_number : (free : List ℕ) (number caller : ℕ) (rest : List ℕ) → number < CALLERS → free ≡ numbers_from number (CALLERS - number) → free ≡ caller ∷ rest
+    → (caller ≡ number) × (rest ≡ numbers_from (number + 1) (CALLERS - (number + 1)))
 next_number free number caller rest some is e =
-    let both : caller ∷ rest ≡ number ∷ numbers_from (number + 1) (64 - (number + 1)) = sym e ∙ is ∙ run_first number (64 - number) (64 - (number + 1)) (omega arith) in
+    let both : caller ∷ rest ≡ number ∷ numbers_from (number + 1) (CALLERS - (number + 1)) = sym e ∙ is ∙ run_first number (CALLERS - number) (CALLERS - (number + 1)) (omega arith) in
     (first_of caller number rest _ both, rest_of caller number rest _ both)
 
 reply_done : (r : Reply) → Logged Done ≡ Logged r → r ≡ Done
@@ -72,7 +73,7 @@ pub record IsMet (number : ℕ) (o0 o2 p1 p2 : PassState) : Type 0 where
   pub seen : o2.seen ≡ p1.seen
   pub opener : HasEnrolled number o0 o2
 
-pub met : (number : ℕ) (o0 o1 o2 p1 p2 : PassState) (rest : List ℕ) → number < 64 → o0.free ≡ numbers_from number (64 - number) → o0.free ≡ p1.caller ∷ rest → o1 ≡ record o0 { free = rest }
+pub met : (number : ℕ) (o0 o1 o2 p1 p2 : PassState) (rest : List ℕ) → number < CALLERS → o0.free ≡ numbers_from number (CALLERS - number) → o0.free ≡ p1.caller ∷ rest → o1 ≡ record o0 { free = rest }
     → IsCalled (newcomer o0 p1.caller) p1 Enrol (Logged Done) → o2 ≡ record o1 { seen = longer o1.seen p1.seen } → p2 ≡ record p1 { seen = o2.seen } → IsMet number o0 o2 p1 p2
 met number o0 o1 o2 p1 p2 rest low free handed is c after other =
     let numbers = next_number o0.free number p1.caller rest low free handed in

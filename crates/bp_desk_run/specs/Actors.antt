@@ -1,6 +1,7 @@
 -- The callers of a run before they run, and after.
 use Rattle.std.specs.Prelude.{◌≡◌, ◌≢◌, ℕ, ◌+◌, ◌-◌, ◌<◌, ◌≤◌, List, [], ◌∷◌, ◌++◌, length, slice_index_or, vec_capacity, Option, Some}
 use Rattle.atomic_table.specs.Seated.{TableId}
+use Rattle.bp_types.specs.declared.limits.TheConstants.{CALLERS}
 use Rattle.bp_types.specs.declared.command.Command.{Command}
 use Rattle.bp_types.specs.House.{Inn}
 use Rattle.bp_turn.specs.Prefix.{IsPrefix}
@@ -15,17 +16,18 @@ use Rattle.bp_desk.specs.Passes.{PassState}
 use Rattle.bp_optimise.specs.Following.{Optimising, GoesWith}
 use Rattle.bp_optimise.specs.Acts.{IsActor}
 use Rattle.bp_optimise.specs.Sessions.{AreInRange}
+use Rattle.bp_desk_run.specs.declared.actor.TheConstants.{MOST_ACTORS}
 use Rattle.bp_desk_run.specs.DeskRun.{lead_of}
 use Rattle.bp_desk_run.specs.declared.actor.Actor.{Actor}
 use Rattle.bp_desk_run.specs.Beginnings.{first_lines}
 use Rattle.bp_desk_run.specs.Endings.{IsEnd, IsEnded}
 
--- what the callers of a run are told of it: how many sessions there are (sessions and workers are 48 at most), the lead, and the units of a room
+-- what the callers of a run are told of it: how many sessions there are, the lead, and the units of a room
 pub record AreTerms (house : Inn) (sessions lead unit : ℕ) : Type 0 where
   pub lead_is : lead ≡ lead_of house
   pub some_lead : 1 ≤ lead
   pub unit_is : unit ≡ house.limits.unit
-  pub few : sessions ≤ 48
+  pub few : sessions ≤ MOST_ACTORS
 
 -- a caller that has enrolled, with an optimiser; a worker has no command
 pub record IsReady (desk : TableId) (house : Inn) (sessions number : ℕ) (seen : History) (a : Actor) : Type 0 where
@@ -71,7 +73,7 @@ pub record HasEnrolled (number : ℕ) (old new : PassState) : Type 0 where
   pub caller : new.caller ≡ old.caller
   pub calls : new.calls ≡ old.calls
   pub ended : new.ended ≡ old.ended
-  pub free : new.free ≡ numbers_from (number + 1) (64 - (number + 1))
+  pub free : new.free ≡ numbers_from (number + 1) (CALLERS - (number + 1))
   pub begins : IsPrefix old.seen new.seen
   pub order : (lines : History) → HasInOrder lines old.seen → HasInOrder (lines ++ line_of number Enrol Done ∷ []) new.seen
 
@@ -82,7 +84,7 @@ pub record HasEnrolledAll (many : ℕ) (old new : PassState) : Type 0 where
   pub caller : new.caller ≡ old.caller
   pub calls : new.calls ≡ old.calls
   pub ended : new.ended ≡ old.ended
-  pub free : new.free ≡ numbers_from (many + 1) (64 - (many + 1))
+  pub free : new.free ≡ numbers_from (many + 1) (CALLERS - (many + 1))
   pub order : (o : Line) → old.seen ≡ o ∷ [] → HasInOrder (first_lines o many) new.seen
 
 -- the opener's pass after it joined callers

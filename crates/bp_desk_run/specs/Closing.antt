@@ -1,5 +1,6 @@
 -- The opener's last round, when all others have left.
 use Rattle.std.specs.Prelude.{◌≡◌, ◌≢◌, ℕ, ◌+◌, ◌-◌, ◌≤◌, Bool, true, false, List, [], ◌∷◌, ◌++◌, length, Contains}
+use Rattle.bp_types.specs.declared.limits.TheConstants.{CALLERS}
 use Rattle.bp_types.specs.House.{Inn}
 use Rattle.bp_turn.specs.Callers.{numbers_from}
 use Rattle.bp_core.specs.declared.line.Act.TheVariants.{Publish}
@@ -10,12 +11,13 @@ use Rattle.bp_desk.specs.Passes.{PassState}
 use Rattle.bp_optimise.specs.Vectors.{IsLeastVector}
 use Rattle.bp_optimise.specs.declared.round.Round.{Round}
 use Rattle.bp_optimise.specs.declared.round.Round.TheVariants.{Unchanged, Published, Superseded, PublicationsFull}
+use Rattle.bp_desk_run.specs.declared.actor.TheConstants.{MOST_ACTORS}
 
 -- the pass of an opener to which all callers up to a number have come back, and which handed out no other
 pub record HasAllBack (most : ℕ) (p : PassState) : Type 0 where
   pub opener : p.caller ≡ 0
-  pub few : most ≤ 48
-  pub free : p.free ≡ numbers_from (most + 1) (64 - (most + 1))
+  pub few : most ≤ MOST_ACTORS
+  pub free : p.free ≡ numbers_from (most + 1) (CALLERS - (most + 1))
   pub back : (c : ℕ) → 1 ≤ c → c ≤ most → (es : History) × Contains p.ended (c, es)
 
 -- what the round did to the history that the opener had seen: no other entry came between

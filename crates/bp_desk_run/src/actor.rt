@@ -1,5 +1,4 @@
 ghost use Rattle.std.specs.Prelude.{◌≡◌, ◌≢◌, ◌≤◌, ◌<◌, ℕ};
-ghost use Rattle.bp_core.specs.Callers.{greatest_caller};
 ghost use Rattle.bp_optimise.specs.Following.{GoesWith};
 ghost use Rattle.bp_optimise.specs.Sessions.{AreInRange, IsSession};
 ghost use Rattle.bp_optimise.specs.Works.{IsWork};
@@ -9,11 +8,15 @@ ghost use Rattle.bp_desk_run.specs.Actors.{AreTerms, IsReady, HasRun};
 use bp_desk::{Desk, Left, Pass};
 use bp_edges::Gate;
 use bp_optimise::{Optimiser, SessionEnd, Stop, WorkEnd, session, work};
+use bp_types::limits::{MOST_SESSIONS, MOST_WORKERS};
 use bp_types::{Command, Steps};
 use std::alloc::Global;
 use std::marker::Brand;
 use std::sync::Wait;
 use std::sync::ledger::{Blank, Ledger};
+
+/// Actors of a run, at most: its sessions and its workers.
+pub const MOST_ACTORS: usize = MOST_SESSIONS as usize + MOST_WORKERS as usize;
 
 /// A caller: its commands, its pass and optimiser until it runs, and its end. A worker has no command.
 #[derive(Drop)]
@@ -132,7 +135,6 @@ fn counted_work<R: Wait, G: Gate, L: Ledger>(
     requires desk { pass.desk ≡ desk.now }
     requires caller { pass.caller ≢ 0 }
     requires goes { GoesWith pass.house pass.seen optimiser }
-    requires sessions { sessions ≤ greatest_caller }
     requires lead { 1 ≤ lead }
     ensures work { IsWork sessions lead pass result.left result.memory }
 {

@@ -5,7 +5,7 @@ ghost use Rattle.bp_flow.specs.Settled.{IsSettled};
 ghost use Rattle.bp_optimise.specs.Sessions.{AreInRange};
 ghost use Rattle.bp_desk_run.specs.Finals.{AreScripted, ComesTo};
 
-use crate::actor::Actor;
+use crate::actor::{Actor, MOST_ACTORS};
 use crate::crew::{enrol_all, join_all, meet_all, run_all};
 use crate::finish::{all_finished, any_stopped, close_desk, has_closed};
 use crate::start::open_desk;
@@ -41,7 +41,7 @@ pub fn run_callers<R: Threads + Wait + Sync, G: Gate, L: Ledger>(
     steps: &mut Steps<L>,
 ) -> Result<Ran, Memory>
     requires solver { (solver.now.flow.program ≡ opening house) × IsSettled solver.now }
-    requires few { length actors.old ≤ 48 }
+    requires few { length actors.old ≤ MOST_ACTORS }
     requires sessions { sessions ≤ length actors.old }
     requires range { (i : ℕ) (a : Actor) → i < length actors.old → AreInRange house (slice_index_or actors.old i a).commands.items }
     requires workers { (c : ℕ) (a : Actor) → sessions < c → c ≤ length actors.old → (slice_index_or actors.old (length actors.old - c) a).commands.items ≡ [] }

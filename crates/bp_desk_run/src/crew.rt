@@ -12,12 +12,13 @@ ghost use Rattle.bp_optimise.specs.Sessions.{AreInRange};
 ghost use Rattle.bp_desk_run.specs.Endings.{IsEnded};
 ghost use Rattle.bp_desk_run.specs.Actors.{AreTerms, IsReady, HasRun, AreReady, HaveRun, KeepCommands, HasEnrolled, HasEnrolledAll, HasJoined};
 
-use crate::actor::Actor;
+use crate::actor::{Actor, MOST_ACTORS};
 use crate::start::new_optimiser;
 use bp_desk::{Desk, Pass};
 use bp_edges::Gate;
 use bp_flow::Solver;
 use bp_types::Memory;
+use bp_types::limits::CALLERS;
 use std::alloc::Global;
 use std::sync::Wait;
 use std::thread::{self, Threads};
@@ -36,8 +37,8 @@ impl Actor {
     ) -> Result<(), Memory>
         requires desk { opener.old.desk ≡ desk.now }
         requires opener { opener.old.caller ≡ 0 }
-        requires number { (1 ≤ number) × (number < 64) }
-        requires free { opener.old.free ≡ numbers_from number (64 - number) }
+        requires number { (1 ≤ number) × (number < CALLERS) }
+        requires free { opener.old.free ≡ numbers_from number (CALLERS - number) }
         requires range { AreInRange opener.old.house self.old.commands.items }
         requires workers { sessions < number → self.old.commands.items ≡ [] }
         requires solver { (solver.now.flow.program ≡ opening opener.old.house) × IsSettled solver.now }
@@ -106,8 +107,8 @@ pub fn enrol_all<R: Wait>(
 ) -> Result<(), Memory>
     requires desk { opener.old.desk ≡ desk.now }
     requires opener { opener.old.caller ≡ 0 }
-    requires free { opener.old.free ≡ numbers_from 1 63 }
-    requires few { length actors.old ≤ 48 }
+    requires free { opener.old.free ≡ numbers_from 1 (CALLERS - 1) }
+    requires few { length actors.old ≤ MOST_ACTORS }
     requires range { (i : ℕ) (a : Actor) → i < length actors.old → AreInRange opener.old.house (slice_index_or actors.old i a).commands.items }
     requires workers { (c : ℕ) (a : Actor) → sessions < c → c ≤ length actors.old → (slice_index_or actors.old (length actors.old - c) a).commands.items ≡ [] }
     requires solver { (solver.now.flow.program ≡ opening opener.old.house) × IsSettled solver.now }
@@ -126,7 +127,7 @@ pub fn enrol_all<R: Wait>(
 /// Lets the opener meet each actor again, after which all have seen the same.
 pub fn meet_all(alloc: Global, desk: &Desk, opener: &mut Pass, actors: &mut [Actor])
     requires desk { opener.old.desk ≡ desk.now }
-    requires few { length actors.old ≤ 48 }
+    requires few { length actors.old ≤ MOST_ACTORS }
     requires ready { (house : _) × (sessions : ℕ) × AreReady desk.now house sessions opener.old.seen actors.old }
     ensures opener { opener.new ≡ opener.old }
     ensures ready { (house : _) (sessions : ℕ) → AreReady desk.now house sessions opener.old.seen actors.old → AreReady desk.now house sessions opener.old.seen actors.new × ((c : ℕ) → 1 ≤ c → c ≤ length actors.old → calls opener.old.seen c ≡ line_of c Enrol Done ∷ []) }
@@ -174,7 +175,7 @@ pub fn run_all<R: Threads + Wait + Sync, G: Gate>(
 /// Ends all actors in the opener's pass.
 pub fn join_all(desk: &Desk, opener: &mut Pass, actors: &mut [Actor])
     requires desk { opener.old.desk ≡ desk.now }
-    requires few { length actors.old ≤ 48 }
+    requires few { length actors.old ≤ MOST_ACTORS }
     requires run { (house : _) × (sessions : ℕ) × HaveRun desk.now house sessions actors.old }
     ensures opener { HasJoined opener.old opener.new }
     ensures ended { (house : _) (sessions c : ℕ) (a : Actor) → HaveRun desk.now house sessions actors.old → 1 ≤ c → c ≤ length actors.old → IsEnded house sessions c (slice_index_or actors.old (length actors.old - c) a).commands.items opener.new (slice_index_or actors.old (length actors.old - c) a).stop }

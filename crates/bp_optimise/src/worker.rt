@@ -1,7 +1,7 @@
 //! A worker beside the sessions: rounds until all of them have left.
 
-ghost use Rattle.std.specs.Prelude.{◌≡◌, ◌≢◌, ◌≤◌, false};
-ghost use Rattle.bp_core.specs.Callers.{greatest_caller};
+ghost use Rattle.std.specs.Prelude.{◌≡◌, ◌≢◌, ◌≤◌, true, false};
+ghost use Rattle.bp_desk.specs.Calling.{HasRead};
 ghost use Rattle.bp_optimise.specs.Following.{GoesWith};
 ghost use Rattle.bp_optimise.specs.Acts.{HasActed, commands_in};
 ghost use Rattle.bp_optimise.specs.Tries.{GoesOn, MakesNone};
@@ -49,7 +49,6 @@ pub fn work<R: Wait, G: Gate, L: Ledger>(
     requires desk { pass.desk ≡ desk.now }
     requires caller { pass.caller ≢ 0 }
     requires goes { GoesWith pass.house pass.seen optimiser }
-    requires sessions { sessions ≤ greatest_caller }
     requires lead { 1 ≤ lead }
     ensures work { IsWork sessions lead pass result.left result.memory }
 {
@@ -86,7 +85,6 @@ fn make_rounds<R: Wait, G: Gate, L: Ledger>(
 ) -> bool
     requires desk { pass.old.desk ≡ desk.now }
     requires goes { GoesWith pass.old.house pass.old.seen optimiser.old }
-    requires sessions { sessions ≤ greatest_caller }
     requires lead { 1 ≤ lead }
     ensures acted { HasActed lead pass.old pass.new }
     ensures no_command { MakesNone pass.old pass.new }
@@ -124,14 +122,13 @@ fn make_step<R: Wait, L: Ledger>(
 ) -> Next
     requires desk { pass.old.desk ≡ desk.now }
     requires goes { GoesWith pass.old.house pass.old.seen optimiser.old }
-    requires sessions { sessions ≤ greatest_caller }
     requires lead { 1 ≤ lead }
     ensures goes_on { GoesOn lead pass.old pass.new optimiser.new }
     ensures no_command { MakesNone pass.old pass.new }
     ensures step { IsStep sessions lead superseded pass.old pass.new result }
 {
-    let left = desk.left(rt, pass, sessions);
-    if left == sessions && !superseded {
+    let left = have_left(rt, desk, pass, sessions);
+    if left && !superseded {
         return Next::Leaves;
     }
     match optimiser.round(rt, alloc, desk, pass, lead, steps) {
@@ -140,4 +137,13 @@ fn make_step<R: Wait, L: Ledger>(
         },
         Err(_) => Next::NoMemory,
     }
+}
+
+/// Whether the callers from 1 to a number have left.
+fn have_left<R: Wait>(rt: &R, desk: &Desk, pass: &mut Pass, sessions: u32) -> bool
+    requires { pass.old.desk ≡ desk.now }
+    ensures read { HasRead pass.old pass.new }
+    ensures left { result ≡ true → HaveLeft pass.new.seen sessions }
+{
+    desk.left(rt, pass, sessions) == sessions
 }

@@ -1,6 +1,7 @@
 use Rattle.std.proofs.Common.{rules, refl, ◌≡◌, ℕ, ◌+◌, ◌/◌, ◌≤◌, length, ap, sym, subst, ◌∙◌, arith, ◌&&◌}
 use Rattle.bp_types.specs.declared.command.Limits.{Limits}
 use Rattle.bp_desk.specs.Passes.{PassState}
+use Rattle.bp_desk_run.specs.declared.actor.TheConstants.{MOST_ACTORS}
 use Rattle.bp_desk_run.specs.Actors.{AreTerms, AreReady}
 use Rattle.bp_desk_run.specs.Finals.{ComesTo}
 use Rattle.bp_desk_run.proofs.Composing.{terms, parts, flags, run_of, all_back, some_stale}
@@ -11,7 +12,7 @@ meet_all-requires-clause-ready g c = (c.in_ok-desk.opener.house, c.args.sessions
 
 pub run_all-requires-clause-ready : goal.run_all-requires-clause-ready
 run_all-requires-clause-ready g c κs ls =
-    let few : c.args.sessions ≤ 48 = (let a = c.requires.few in let b = c.requires.sessions in omega (arith, a, b)) in
+    let few : c.args.sessions ≤ MOST_ACTORS = (let a = c.requires.few in let b = c.requires.sessions in omega (arith, a, b)) in
     let told : AreTerms c.args.house c.args.sessions ((c.limits-limits.result.stale_after + 1) / 2) c.limits-limits.result.unit = subst (λ (l : Limits). AreTerms c.args.house c.args.sessions ((l.stale_after + 1) / 2) l.unit) (sym c.limits-limits.ensures.value) (terms c.args.house c.args.sessions c.limits-limits.ensures.house few) in
     let ready : AreReady c.in_ok-desk.desk c.args.house c.args.sessions c.enrol_all.new.opener.seen c.enrol_all.new.actors = subst (λ h. AreReady c.in_ok-desk.desk h c.args.sessions c.enrol_all.new.opener.seen c.enrol_all.new.actors) (ap (λ (p : PassState). p.house) c.in_ok-desk.ensures.2) c.in_ok-enrol_all.ensures.ready in
     let met = c.meet_all.ensures.ready c.args.house c.args.sessions ready in
@@ -19,7 +20,7 @@ run_all-requires-clause-ready g c κs ls =
 
 pub join_all-requires-clause-run : goal.join_all-requires-clause-run
 join_all-requires-clause-run g c =
-    let few : c.args.sessions ≤ 48 = (let a = c.requires.few in let b = c.requires.sessions in omega (arith, a, b)) in
+    let few : c.args.sessions ≤ MOST_ACTORS = (let a = c.requires.few in let b = c.requires.sessions in omega (arith, a, b)) in
     let told : AreTerms c.args.house c.args.sessions ((c.limits-limits.result.stale_after + 1) / 2) c.limits-limits.result.unit = subst (λ (l : Limits). AreTerms c.args.house c.args.sessions ((l.stale_after + 1) / 2) l.unit) (sym c.limits-limits.ensures.value) (terms c.args.house c.args.sessions c.limits-limits.ensures.house few) in
     let ready : AreReady c.in_ok-desk.desk c.args.house c.args.sessions c.enrol_all.new.opener.seen c.enrol_all.new.actors = subst (λ h. AreReady c.in_ok-desk.desk h c.args.sessions c.enrol_all.new.opener.seen c.enrol_all.new.actors) (ap (λ (p : PassState). p.house) c.in_ok-desk.ensures.2) c.in_ok-enrol_all.ensures.ready in
     let met = c.meet_all.ensures.ready c.args.house c.args.sessions ready in
@@ -27,7 +28,7 @@ join_all-requires-clause-run g c =
 
 pub close_desk-requires-clause-back : goal.close_desk-requires-clause-back
 close_desk-requires-clause-back g c =
-    let few : c.args.sessions ≤ 48 = (let a = c.requires.few in let b = c.requires.sessions in omega (arith, a, b)) in
+    let few : c.args.sessions ≤ MOST_ACTORS = (let a = c.requires.few in let b = c.requires.sessions in omega (arith, a, b)) in
     let told : AreTerms c.args.house c.args.sessions ((c.limits-limits.result.stale_after + 1) / 2) c.limits-limits.result.unit = subst (λ (l : Limits). AreTerms c.args.house c.args.sessions ((l.stale_after + 1) / 2) l.unit) (sym c.limits-limits.ensures.value) (terms c.args.house c.args.sessions c.limits-limits.ensures.house few) in
     let p = parts c.in_ok-desk.desk c.args.house c.args.sessions _ _ c.args.actors.now c.enrol_all.new.actors c.meet_all.new.actors c.run_all.new.actors c.in_ok-desk.ensures.0 c.in_ok-desk.opener c.enrol_all.new.opener c.meet_all.new.opener c.join_all.new.opener
     c.in_ok-desk.ensures.1 c.in_ok-desk.ensures.2 c.requires.few c.in_ok-enrol_all.ensures.opener c.in_ok-enrol_all.ensures.ready c.in_ok-enrol_all.ensures.commands c.meet_all.ensures.opener c.meet_all.ensures.ready c.meet_all.ensures.commands c.facts-2.ensures.accounts
@@ -36,7 +37,7 @@ close_desk-requires-clause-back g c =
 
 pub returns-clause-ran : goal.returns-clause-ran
 returns-clause-ran g c scripts workers s =
-    let few : c.args.sessions ≤ 48 = (let a = c.requires.few in let b = c.requires.sessions in omega (arith, a, b)) in
+    let few : c.args.sessions ≤ MOST_ACTORS = (let a = c.requires.few in let b = c.requires.sessions in omega (arith, a, b)) in
     let told : AreTerms c.args.house c.args.sessions ((c.limits-limits.result.stale_after + 1) / 2) c.limits-limits.result.unit = subst (λ (l : Limits). AreTerms c.args.house c.args.sessions ((l.stale_after + 1) / 2) l.unit) (sym c.limits-limits.ensures.value) (terms c.args.house c.args.sessions c.limits-limits.ensures.house few) in
     let p = parts c.in_ok-desk.desk c.args.house c.args.sessions _ _ c.args.actors.now c.enrol_all.new.actors c.meet_all.new.actors c.run_all.new.actors c.in_ok-desk.ensures.0 c.in_ok-desk.opener c.enrol_all.new.opener c.meet_all.new.opener c.join_all.new.opener
     c.in_ok-desk.ensures.1 c.in_ok-desk.ensures.2 c.requires.few c.in_ok-enrol_all.ensures.opener c.in_ok-enrol_all.ensures.ready c.in_ok-enrol_all.ensures.commands c.meet_all.ensures.opener c.meet_all.ensures.ready c.meet_all.ensures.commands c.facts-2.ensures.accounts

@@ -15,8 +15,8 @@ invariant_of-pass g c =
 
 pub returns-clause-items : goal.returns-clause-items
 returns-clause-items g c =
-    let s = c.pass.inside.seat in let m = c.take-shared.new.seat in let b = c.shared.inside.book in let k = c.changes_until-reached.result in
-    let turn : HasTurn s m b = subst (λ (d : Diary). HasTurn s m d) (sym c.shared.view_is) c.take-shared.ensures in
+    let s = c.pass.inside.seat in let m = c.take-shared.new.seat in let b = c.deref.result.now in let k = c.changes_until-reached.result in
+    let turn : HasTurn s m b = subst (λ (d : Diary). HasTurn s m d) (sym (c.deref.ensures ∙ c.shared.view_is)) c.take-shared.ensures in
     let seen : c.args.until ≤ length s.seen = subst (λ (q : PassState). c.args.until ≤ length q.seen) (sym c.pass.view_is) c.requires.within in
     let reached = c.changes_until-reached.ensures.reached in
     c.changes_until-reached.ensures.items ∙ deltas_seen s m b c.args.from k c.args.until turn reached.0 reached.1 seen
@@ -24,8 +24,8 @@ returns-clause-items g c =
 
 pub returns-clause-full : goal.returns-clause-full
 returns-clause-full g c lt =
-    let s = c.pass.inside.seat in let m = c.take-shared.new.seat in let b = c.shared.inside.book in let k = c.changes_until-reached.result in
-    let turn : HasTurn s m b = subst (λ (d : Diary). HasTurn s m d) (sym c.shared.view_is) c.take-shared.ensures in
+    let s = c.pass.inside.seat in let m = c.take-shared.new.seat in let b = c.deref.result.now in let k = c.changes_until-reached.result in
+    let turn : HasTurn s m b = subst (λ (d : Diary). HasTurn s m d) (sym (c.deref.ensures ∙ c.shared.view_is)) c.take-shared.ensures in
     let seen : c.args.until ≤ length s.seen = subst (λ (q : PassState). c.args.until ≤ length q.seen) (sym c.pass.view_is) c.requires.within in
     let reached = c.changes_until-reached.ensures.reached in
     subst (λ (l : List Change). vec_capacity c.args.into.now < length l)

@@ -12,5 +12,5 @@ invariant_of-pass g c =
 
 pub returns-clause-left : goal.returns-clause-left
 returns-clause-left g c =
-    c.left-left.ensures ∙ ap (λ (d : Diary). left_of d.history c.args.sessions) c.shared.view_is
+    c.left-left.ensures ∙ ap (λ (d : Diary). left_of d.history c.args.sessions) (c.deref.ensures ∙ c.shared.view_is)
     ∙ sym (ap (λ (x : State). left_of x.seen c.args.sessions) c.take-shared.ensures.seat) ∙ sym (ap (λ (x : State). left_of x.seen c.args.sessions) c.give.ensures.seat)

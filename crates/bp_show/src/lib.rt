@@ -1,0 +1,22 @@
+//! Displays that never go back: one screen that follows a pass of the shared desk, and views that read it without
+//! waiting, taking a turn or taking memory.
+//!
+//! Nights are numbered from 0, and money is in minor units.
+#![tactic(auto)]
+
+mod face;
+mod follow;
+mod gifts;
+pub mod law;
+mod name;
+mod naming;
+mod order;
+mod screen;
+mod stage;
+mod sums;
+mod threads;
+mod view;
+
+pub use screen::{Follow, Screen};
+pub use threads::display_crosses_threads;
+pub use view::{Look, View};

@@ -1,0 +1,11 @@
+use crate::screen::Screen;
+use crate::view::View;
+use std::sync::Wait;
+
+fn moves<T: Send>() {}
+
+/// A screen and its views move between threads. It does nothing: that it is proved says so.
+pub fn display_crosses_threads<R: Wait + Sync + 'static>() {
+    moves::<Screen<'static, R>>();
+    moves::<View>();
+}

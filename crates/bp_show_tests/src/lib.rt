@@ -1,0 +1,11 @@
+//! Tests of displays, and a program for a library's user.
+#![tactic(auto)]
+
+#[cfg(test)]
+mod evening;
+#[cfg(test)]
+mod hotel;
+#[cfg(test)]
+mod lobby;
+#[cfg(test)]
+mod tests;

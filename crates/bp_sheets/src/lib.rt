@@ -14,8 +14,6 @@ mod lengths;
 mod lines;
 mod margins;
 mod paper;
-#[cfg(test)]
-mod tests;
 
 pub use band::{Band, bands};
 pub use paper::{SheetText, sheet, sheet_of};

@@ -1,30 +1,10 @@
-use crate::{bands, sheet};
+//! The sheet of three nights, and the bands of nights without rooms and with all.
+
+use crate::hotel::three_nights;
 use bp_edges::MemorySink;
+use bp_sheets::{bands, sheet};
 use bp_types::{Instance, Span, Stay};
 use std::test::Fail;
-
-const STAYS: [Stay; 4] = [
-    Stay {
-        span: Span { from: 0, to: 2 },
-        rate: 100,
-        forecast: 3,
-    },
-    Stay {
-        span: Span { from: 1, to: 3 },
-        rate: 150,
-        forecast: 1,
-    },
-    Stay {
-        span: Span { from: 0, to: 1 },
-        rate: 60,
-        forecast: 1,
-    },
-    Stay {
-        span: Span { from: 2, to: 3 },
-        rate: 40,
-        forecast: 5,
-    },
-];
 
 const SHEET: &[u8] = b"night 0 price 0 gain 0 loss 0
 night 1 price 100 gain 100 loss 110
@@ -43,9 +23,7 @@ const CLOSED: Stay = Stay {
 #[test]
 fn the_sheet_of_three_nights(rt: HostRuntime) -> Result<(), Fail> {
     let alloc = rt.alloc();
-    let rooms = Vec::from_slice(alloc, &[2, 1, 2])?;
-    let stays = Vec::from_slice(alloc, &STAYS)?;
-    let instance = Instance::new(rooms, stays)?;
+    let instance = three_nights(alloc, &[2, 1, 2])?;
     let mut out = MemorySink::new(Vec::new(alloc));
     sheet(alloc, &instance, &mut out)?;
     assert!(rt; out.written() == SHEET);

@@ -1,0 +1,5 @@
+pub mod Lists
+pub mod Laws
+pub mod Borrowed
+pub mod Desks
+pub mod Sites

@@ -4,3 +4,5 @@ pub mod TallyLemmas
 pub mod EntryLemmas
 -- Tables that are written row by row.
 pub mod RowLemmas
+-- The text of the tables is a report.
+pub mod ReportLemmas

@@ -1,5 +1,5 @@
 -- The tables of a report: a line for each night, a line for each stay, and the value.
-use Rattle.std.specs.Prelude.{◌≡◌, ℕ, ◌+◌, ◌<◌, List, [], ◌∷◌, ◌++◌, map, length, slice_index, slice_index_or, slice_get, codes, Some, unwrap_or}
+use Rattle.std.specs.Prelude.{◌≡◌, ℕ, ◌+◌, ◌<◌, ◌≤◌, List, [], ◌∷◌, ◌++◌, map, length, slice_index, slice_index_or, slice_get, codes, Some, unwrap_or}
 use Rattle.std.specs.List.{range_with_len}
 use Rattle.std.specs.Option.{option_map}
 use Rattle.bp_types.specs.House.{Inn}
@@ -12,7 +12,7 @@ use Rattle.bp_core.specs.Lines.{History, boards, last_number, last_prices}
 use Rattle.bp_core.specs.Instance.{rooms_at, sold_at, rooms_left_at, forecast_of}
 use Rattle.bp_report.specs.declared.tally.Tally.{Tally}
 use Rattle.bp_report.specs.Columns.{right, left}
-use Rattle.bp_report.specs.Tallies.{tally_of}
+use Rattle.bp_report.specs.Tallies.{tally_of, tallies_of}
 
 -- the columns of the nights
 abbrev pub night_row : (night date rooms sold free price : List ℕ) → Line
@@ -69,3 +69,9 @@ pub record IsReport (season : Season) (stay_codes : List (List ℕ)) (h : Inn) (
   pub dates : List (List ℕ)
   pub dates_are : AreDates season (length h.rooms) dates
   pub text_is : text ≡ text_of (report_lines dates stay_codes h H)
+
+-- what the report of a history is written from: a date for each night, and for each code a stay and its tally
+pub record AreReady (dates stay_codes : List (List ℕ)) (h : Inn) (H : History) (tallies : List Tally) : Type 0 where
+  pub nights : length h.rooms ≤ length dates
+  pub stays : length h.stays ≡ length stay_codes
+  pub tallies_are : tallies ≡ tallies_of H (length stay_codes) (length H)

@@ -8,10 +8,12 @@ mod cells;
 mod counting;
 mod dates;
 mod nights;
+mod ready;
 mod stays;
 mod tables;
 mod tally;
 #[cfg(test)]
 mod tests;
 
+pub use ready::Report;
 pub use tables::report;

@@ -5,7 +5,7 @@ ghost use Rattle.bp_edges.specs.Writing.{Writes};
 ghost use Rattle.bp_text.specs.Drafts.{Drafts};
 ghost use Rattle.bp_text.specs.Lines.{text_of};
 ghost use Rattle.bp_report.specs.Tallies.{tallies_of};
-ghost use Rattle.bp_report.specs.Tables.{report_lines, IsReport};
+ghost use Rattle.bp_report.specs.Tables.{report_lines, IsReport, AreReady};
 
 use crate::counting::tallies_of;
 use crate::dates::dates_of;
@@ -43,6 +43,27 @@ fn draft_report<K: Sink>(
     draft.push_wide_line(b"value", book.last_board().certificate().value, out)
 }
 
+/// Writes the whole report as it is spelt: `dates` has the date of each night, `tallies` one tally per stay.
+pub(crate) fn write_tables<K: Sink>(
+    alloc: Global,
+    codes: &Codes,
+    book: &Book,
+    dates: &[[u8; 10]],
+    tallies: &[Tally],
+    out: &mut K,
+) -> Result<(), WriteError>
+    requires { AreReady dates.now codes.now book.now.house book.now.history tallies.now }
+    ensures writes { Writes (K.written out.old) (K.written out.new) (text_of (report_lines dates.now codes.now book.now.house book.now.history)) result }
+    ensures failed { IsErrOf result WriteError.Failed → Rose (K.faults out.old) (K.faults out.new) }
+    ensures unfailing { K.steady out.old → ¬ IsErrOf result WriteError.Failed }
+    ensures steady { K.steady out.old → K.steady out.new }
+    ensures faults { K.faults out.old ≤ K.faults out.new }
+{
+    let mut draft = Draft::new(alloc)?;
+    draft_report(&mut draft, alloc, codes, book, dates, tallies, out)?;
+    draft.hand_on(out)
+}
+
 /// Writes the report of a book as it is spelt: its nights are the hotel's, and its stays are those of the codes.
 pub fn report<K: Sink>(
     alloc: Global,
@@ -64,7 +85,5 @@ pub fn report<K: Sink>(
         Ok(tallies) => tallies,
         Err(_) => return Err(WriteError::Memory),
     };
-    let mut draft = Draft::new(alloc)?;
-    draft_report(&mut draft, alloc, codes, book, &dates, &tallies, out)?;
-    draft.hand_on(out)
+    write_tables(alloc, codes, book, &dates, &tallies, out)
 }

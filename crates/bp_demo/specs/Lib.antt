@@ -1,0 +1,4 @@
+pub mod Bookings
+pub mod Summaries
+pub mod Demos
+pub mod Laws

@@ -1,0 +1,2 @@
+-- the house of a problem breaks no limit
+pub mod Fits

@@ -1,40 +1,54 @@
 -- From the files of a command to the end of a call. The proof of a command cites `brings_stop` and `brings_answer`, that
 -- of the whole program `serves`, `serves_nothing` and `known`.
-use Rattle.std.proofs.Common.{◌≡◌, ◌≢◌, inl, inr, ℕ, ◌≤◌, ◌⊎◌, Bool, true, false, refl, ap, sym, subst, ◌∙◌, arith, List, [], ◌∷◌, Option, None, Some, Result, Ok, Err}
+use Rattle.std.proofs.Common.{◌≡◌, ◌≢◌, inl, inr, ℕ, ◌≤◌, ◌<◌, ◌⊎◌, Bool, true, false, refl, ap, sym, subst, ◌∙◌, arith, List, [], ◌∷◌, Option, None, Some, Result, Ok, Err}
 use Rattle.std.specs.Prelude.{codes, if◌then◌else◌, IfOk}
+use Rattle.std.specs.List.{list_all}
 use Rattle.bp_cert.specs.declared.verdict.Verdict.{Verdict}
 use Rattle.bp_cert.specs.declared.verdict.Verdict.TheVariants.{WrongLength, PriceTooGreat, AboveForecast, Overfull, Gap, Misvalued, Optimal}
-use Rattle.bp_cli.specs.Words.{Word}
+use Rattle.std.specs.Str.{bytes_eq}
+use Rattle.std.proofs.lemmas.Str.Parse.{digits_value_short}
+use Rattle.bp_cli.specs.Words.{Word, IsNumber}
+use Rattle.bp_cli.proofs.NumberLemmas.{numerals}
 use Rattle.bp_cli.specs.Tasks.{Task, Asks, check, solve, group, judge, desk, replay, report, demo, scenarios, sheet, portfolio}
 use Rattle.bp_types.specs.declared.limits.TheConstants.{MOST_WORKERS}
 use Rattle.bp_cli.specs.Laws.{TasksAreUnique}
+use Rattle.bp_script.specs.declared.generator.TheConstants.{SEEDS}
 use Rattle.bp_cli.specs.Tasks.{AsksWorkers}
 use Rattle.bp_desk_run.specs.declared.callers.Ran.{Ran as RanValue}
 use Rattle.bp_run.specs.declared.outcome.DeskLine.{DeskLine}
-use Rattle.bp_run.specs.Landed.{HasLanded, IsPlainTask, IsDesk, AreServed, NamesThreads, MayStartThreads}
+use Rattle.bp_run.specs.Served.{IsPlainTask, IsDesk, AreScenarios, AreServed, NamesThreads, MayStartThreads, IsPortfolio}
+use Rattle.bp_run.specs.declared.outcome.PortfolioLine.{PortfolioLine}
+use Rattle.bp_run.specs.Portfolio.{portfolio_command}
 use Rattle.bp_run.specs.Statuses.{status_number}
 use Rattle.bp_run.specs.Fetches.{Fetches}
 use Rattle.bp_run.specs.Stops.{Follows}
 use Rattle.bp_run.specs.Command.{Command, Brings, IsStopped, IsAnswered, IsAnswerOf}
 use Rattle.bp_run.specs.Desk.{desk_command}
+use Rattle.bp_run.specs.Scenarios.{scenarios_command}
+use Rattle.bp_scenarios.specs.declared.outcome.Outcome.{Outcome as ScenarioOutcome}
+use Rattle.bp_run.specs.declared.outcome.ScenariosLine.{ScenariosLine}
 use Rattle.bp_run.specs.Check.{verdict_status}
 use Rattle.bp_run.specs.Group.{group_status}
+use Rattle.bp_run.specs.Report.{report_command, report_status}
+use Rattle.bp_run.specs.Demo.{HasDemoNumbers}
 use Rattle.bp_run.specs.HotelPlan.{HotelNames, named}
 use Rattle.bp_run.specs.Judge.{ruling_status, ruling_command, replay_plan}
 use Rattle.bp_run.specs.Commands.{command_of, answer_status, IsPlainAnswer}
 use Rattle.bp_run.specs.Lines.{said, end_status}
 use Rattle.bp_run.specs.Puts.{Puts, Prints}
-use Rattle.bp_run.specs.Ends.{HasEnd, IsDeskOf, five_names, HasStopped, IsPlainEnd, Outcome, HoldsAll, IsComplete, Serves}
+use Rattle.bp_run.specs.Ends.{HasEnd, IsDeskOf, AreScenariosOf, five_names, HasStopped, IsPlainEnd, Outcome, HoldsAll, IsComplete, Serves, IsPortfolioOf}
 use Rattle.bp_run.specs.declared.stop.Stop.{Stop}
 use Rattle.bp_run.specs.declared.stop.Stop.TheVariants as stops
 use Rattle.bp_run.specs.declared.status.Status.{Status}
 use Rattle.bp_run.specs.declared.status.Status.TheVariants as status
 use Rattle.bp_run.specs.declared.end.Answer.{Answer}
-use Rattle.bp_run.specs.declared.end.Answer.TheVariants.{Checked, Solved, Grouped, Judged, Ran}
+use Rattle.bp_run.specs.declared.end.Answer.TheVariants.{Checked, Solved, Grouped, Judged, Ran, Sheeted, Reported, Demonstrated, Foreseen, RanAll}
 use Rattle.bp_run.specs.declared.commands.group.GroupAnswer.{GroupAnswer}
 use Rattle.bp_run.specs.declared.commands.group.GroupAnswer.TheVariants.{Quoted, BadSpan, NoRoom}
 use Rattle.bp_run.specs.declared.commands.judge.Ruling.{Ruling}
 use Rattle.bp_run.specs.declared.commands.judge.Ruling.TheVariants.{Legal, Illegal}
+use Rattle.bp_run.specs.declared.commands.report.ReportAnswer.{ReportAnswer}
+use Rattle.bp_run.specs.declared.commands.report.ReportAnswer.TheVariants.{Tables, Illegal as IllegalReport}
 use Rattle.bp_run.specs.declared.end.End.{End}
 use Rattle.bp_run.specs.declared.end.End.TheVariants.{NotPlain, Fault, Refused, Answered}
 
@@ -53,6 +67,14 @@ pub brings_named : (shelf : Fetches) (n m : HotelNames) (v w : Word) (result : R
 brings_named shelf n m v w result names word brings =
     let P : HotelNames → Type 0 = λ x. Brings shelf (ruling_command (replay_plan x v)) result in
     let Q : Word → Type 0 = λ x. Brings shelf (ruling_command (replay_plan m x)) result in
+    subst Q word (subst P names brings)
+
+-- so it is of a report
+pub reports_named : (shelf : Fetches) (n m : HotelNames) (v w : Word) (result : Result ReportAnswer Stop) → n ≡ m → v ≡ w
+    → Brings shelf (report_command n v) result → Brings shelf (report_command m w) result
+reports_named shelf n m v w result names word brings =
+    let P : HotelNames → Type 0 = λ x. Brings shelf (report_command x v) result in
+    let Q : Word → Type 0 = λ x. Brings shelf (report_command m x) result in
     subst Q word (subst P names brings)
 
 -- a verdict is done or wrong
@@ -76,6 +98,11 @@ pub ruling_number : (ruling : Ruling) → status_number (ruling_status ruling) �
 ruling_number (Legal entries) = omega arith
 ruling_number (Illegal place rule) = omega arith
 
+-- a report is done, or the journal is wrong
+pub report_number : (answer : ReportAnswer) → status_number (report_status answer) ≤ 1
+report_number (Tables text) = omega arith
+report_number (IllegalReport place rule) = omega arith
+
 -- a run is done or unfinished
 run_number : (whole : Bool) → (status_number (if whole then status.Done else status.Unfinished) ≤ 3) ⊎ (status_number (if whole then status.Done else status.Unfinished) ≡ 7)
 run_number true = inl (omega arith)
@@ -88,6 +115,11 @@ answer_number (Solved claim) = inl (omega arith)
 answer_number (Grouped answer) = inl (group_number answer)
 answer_number (Judged ruling) = let least = ruling_number ruling in inl (omega arith)
 answer_number (Ran ran) = run_number ran.whole
+answer_number (Sheeted text) = inl (omega arith)
+answer_number (Demonstrated text) = inl (omega arith)
+answer_number (Reported answer) = let least = report_number answer in inl (omega arith)
+answer_number (Foreseen outcomes) = inl (omega arith)
+answer_number (RanAll runs) = run_number (list_all (λ (ran : RanValue). ran.whole) runs)
 
 plain_answer_number : (answer : Answer) → IsPlainAnswer answer → status_number (answer_status answer) ≤ 3
 plain_answer_number (Checked verdict) plain = let least = verdict_number verdict in omega arith
@@ -95,6 +127,11 @@ plain_answer_number (Solved claim) plain = omega arith
 plain_answer_number (Grouped answer) plain = group_number answer
 plain_answer_number (Judged ruling) plain = let least = ruling_number ruling in omega arith
 plain_answer_number (Ran ran) plain = absurd plain
+plain_answer_number (Sheeted text) plain = omega arith
+plain_answer_number (Demonstrated text) plain = omega arith
+plain_answer_number (Reported answer) plain = let least = report_number answer in omega arith
+plain_answer_number (Foreseen outcomes) plain = absurd plain
+plain_answer_number (RanAll runs) plain = absurd plain
 
 -- so no answer is a fault
 pub answer_is_no_fault : (answer : Answer) → answer_status answer ≢ status.Fault
@@ -217,49 +254,92 @@ threads_apart first command is not_desk not_scenarios not_portfolio names = elim
   | inr (inr e) ↦ not_portfolio (sym is ∙ e)
 ]
 
--- the tasks that are there and may start threads
-pub threads_task : (words : List Word) (task : Task) → MayStartThreads words → Asks words task → HasLanded task → IsDesk task
-threads_task [] task may asks landed = absurd may
-threads_task (first ∷ rest) (check p c) may asks landed =
+-- the first word of a line
+first_word : (first : Word) (rest : List Word) (word : Word) (behind : List Word) → first ∷ rest ≡ word ∷ behind → first ≡ word
+first_word first rest word behind same = cc
+
+-- a demo is none that may start threads
+demo_apart : (first : Word) → first ≡ codes "demo" → NamesThreads first → ⊥
+demo_apart first is names =
+    threads_apart first (codes "demo") is
+    (λ e. let no : false ≡ true = ap (λ (w : Word). bytes_eq w (codes "desk")) e in cc)
+    (λ e. let no : false ≡ true = ap (λ (w : Word). bytes_eq w (codes "scenarios")) e in cc)
+    (λ e. let no : false ≡ true = ap (λ (w : Word). bytes_eq w (codes "portfolio")) e in cc)
+    names
+
+-- the tasks that may start threads
+pub threads_task : (words : List Word) (task : Task) → MayStartThreads words → Asks words task → IsDesk task ⊎ AreScenarios task ⊎ IsPortfolio task
+threads_task [] task may asks = absurd may
+threads_task (first ∷ rest) (check p c) may asks =
     let is : first ≡ codes "check" = cc in absurd (threads_apart first (codes "check") is (λ e. cc) (λ e. cc) (λ e. cc) may)
-threads_task (first ∷ rest) (solve p) may asks landed =
+threads_task (first ∷ rest) (solve p) may asks =
     let is : first ≡ codes "solve" = cc in absurd (threads_apart first (codes "solve") is (λ e. cc) (λ e. cc) (λ e. cc) may)
-threads_task (first ∷ rest) (group p from to rooms) may asks landed =
+threads_task (first ∷ rest) (group p from to rooms) may asks =
     let words = asks.words_are in
     let is : first ≡ codes "group" = cc in absurd (threads_apart first (codes "group") is (λ e. cc) (λ e. cc) (λ e. cc) may)
-threads_task (first ∷ rest) (judge p j) may asks landed =
+threads_task (first ∷ rest) (judge p j) may asks =
     let is : first ≡ codes "judge" = cc in absurd (threads_apart first (codes "judge") is (λ e. cc) (λ e. cc) (λ e. cc) may)
-threads_task (first ∷ rest) (desk names workers) may asks landed = (names, workers, refl)
-threads_task (first ∷ rest) (replay names) may asks landed =
+threads_task (first ∷ rest) (desk names workers) may asks = inl (names, workers, refl)
+threads_task (first ∷ rest) (replay names) may asks =
     let is : first ≡ codes "replay" = cc in absurd (threads_apart first (codes "replay") is (λ e. cc) (λ e. cc) (λ e. cc) may)
-threads_task (first ∷ rest) (report names) may asks landed = absurd landed
-threads_task (first ∷ rest) (demo seed nights rooms stays) may asks landed = absurd landed
-threads_task (first ∷ rest) (scenarios p changes) may asks landed = absurd landed
-threads_task (first ∷ rest) (sheet p) may asks landed = absurd landed
-threads_task (first ∷ rest) (portfolio list workers) may asks landed = absurd landed
+threads_task (first ∷ rest) (report names) may asks =
+    let is : first ≡ codes "report" = cc in absurd (threads_apart first (codes "report") is (λ e. cc) (λ e. cc) (λ e. cc) may)
+threads_task (first ∷ rest) (demo seed nights rooms stays) may asks =
+    absurd (demo_apart first (first_word first rest (codes "demo") _ asks.words_are) may)
+threads_task (first ∷ rest) (scenarios p changes) may asks = inr (inl (p, changes, refl))
+threads_task (first ∷ rest) (sheet p) may asks =
+    let is : first ≡ codes "sheet" = cc in absurd (threads_apart first (codes "sheet") is (λ e. cc) (λ e. cc) (λ e. cc) may)
+threads_task (first ∷ rest) (portfolio list workers) may asks = inr (inr (list, workers, refl))
 
 -- and those that run in one thread
-plain_task : (words : List Word) (task : Task) → (MayStartThreads words → ⊥) → Asks words task → HasLanded task → IsPlainTask task
-plain_task words (check p c) single asks landed = tt
-plain_task words (solve p) single asks landed = tt
-plain_task words (group p from to rooms) single asks landed = tt
-plain_task words (judge p j) single asks landed = tt
-plain_task words (desk names workers) single asks landed = single (subst MayStartThreads (sym asks.words_are) (inl refl))
-plain_task words (replay names) single asks landed = tt
-plain_task words (report names) single asks landed = landed
-plain_task words (demo seed nights rooms stays) single asks landed = landed
-plain_task words (scenarios p changes) single asks landed = landed
-plain_task words (sheet p) single asks landed = landed
-plain_task words (portfolio list workers) single asks landed = landed
+plain_task : (words : List Word) (task : Task) → (MayStartThreads words → ⊥) → Asks words task → IsPlainTask task
+plain_task words (check p c) single asks = tt
+plain_task words (solve p) single asks = tt
+plain_task words (group p from to rooms) single asks = tt
+plain_task words (judge p j) single asks = tt
+plain_task words (desk names workers) single asks = single (subst MayStartThreads (sym asks.words_are) (inl refl))
+plain_task words (replay names) single asks = tt
+plain_task words (report names) single asks = tt
+plain_task words (demo seed nights rooms stays) single asks = tt
+plain_task words (scenarios p changes) single asks = single (subst MayStartThreads (sym asks.0) (inr (inl refl)))
+plain_task words (sheet p) single asks = tt
+plain_task words (portfolio list workers) single asks = single (subst MayStartThreads (sym asks.words_are) (inr (inr refl)))
 
--- words that ask for another task than the ones that are there are not served
+-- a number of a line is short
+small_number : (word : Word) (n : ℕ) → IsNumber word n → n < SEEDS
+small_number word n number = omega (arith, number.value, digits_value_short numerals word 9 number.digits.1 number.short)
+
+-- the numbers of a demo are those that a line may have
+pub demo_numbers : (words : List Word) (task : Task) → Asks words task → HasDemoNumbers task
+demo_numbers words (check p c) asks = tt
+demo_numbers words (solve p) asks = tt
+demo_numbers words (group p from to rooms) asks = tt
+demo_numbers words (judge p j) asks = tt
+demo_numbers words (desk names workers) asks = tt
+demo_numbers words (replay names) asks = tt
+demo_numbers words (report names) asks = tt
+demo_numbers words (demo seed nights rooms stays) asks = record {
+  small_seed = small_number asks.seed_word seed asks.seed_is;
+  some_night = asks.some_night;
+  few_nights = asks.few_nights;
+  few_rooms = asks.few_rooms;
+  few_stays = asks.few_stays;
+}
+demo_numbers words (scenarios p changes) asks = tt
+demo_numbers words (sheet p) asks = tt
+demo_numbers words (portfolio list workers) asks = tt
+
+-- words that ask for no task that runs so are not served
 pub not_plain_task : TasksAreUnique → (words : List Word) (task : Task) → (MayStartThreads words → ⊥) → Asks words task → (IsPlainTask task → ⊥) → AreServed words → ⊥
-not_plain_task unique words task single asks not_plain (t, asks_t, landed) =
-    not_plain (subst IsPlainTask (unique words t task asks_t asks) (plain_task words t single asks_t landed))
+not_plain_task unique words task single asks not_plain (t, asks_t) =
+    not_plain (subst IsPlainTask (unique words t task asks_t asks) (plain_task words t single asks_t))
 
-pub not_desk_task : TasksAreUnique → (words : List Word) (task : Task) → MayStartThreads words → Asks words task → (IsDesk task → ⊥) → AreServed words → ⊥
-not_desk_task unique words task may asks not_desk (t, asks_t, landed) =
-    not_desk (subst IsDesk (unique words t task asks_t asks) (threads_task words t may asks_t landed))
+pub not_threads_task : TasksAreUnique → (words : List Word) (task : Task) → MayStartThreads words → Asks words task → (IsDesk task → ⊥) → (AreScenarios task → ⊥) → (IsPortfolio task → ⊥) → AreServed words → ⊥
+not_threads_task unique words task may asks no_desk no_scenarios no_portfolio (t, asks_t) = elim (threads_task words t may asks_t) [
+  | inl is ↦ no_desk (subst IsDesk (unique words t task asks_t asks) is)
+  | inr (inl are) ↦ no_scenarios (subst AreScenarios (unique words t task asks_t asks) are)
+  | inr (inr is) ↦ no_portfolio (subst IsPortfolio (unique words t task asks_t asks) is)
+]
 
 -- a command that was stopped at a file, and the end of its call
 module _ {E : Type 0} (words : List Word) (shelf : Fetches) (task : Task) (asks : Asks words task) where
@@ -292,6 +372,16 @@ module _ (words : List Word) (shelf : Fetches) (task : Task) (line : DeskLine) (
   pub ran_stopped : (stop : Stop) → IsStopped shelf (desk_command (named line.hotel) line.script.now line.workers) stop → IsStopped shelf (command_of task) stop
   ran_stopped stop stopped = let P : Task → Type 0 = λ t. IsStopped shelf (command_of t) stop in subst P (sym is) stopped
 
+-- the line of scenarios, and the end of its call
+module _ (words : List Word) (shelf : Fetches) (task : Task) (line : ScenariosLine) (asks : Asks words task) (are : AreScenariosOf task line) where
+  pub foreseen_has : (outcomes : List ScenarioOutcome) → IsAnswered shelf.before.held (scenarios_command line.problem.now line.changes.now) outcomes → HasEnd words shelf (Answered (Foreseen outcomes))
+  foreseen_has outcomes answered =
+      let P : Task → Type 0 = λ t. IsAnswerOf shelf.before.held (command_of t) (Foreseen outcomes) in
+      (task, asks, subst P (sym are) (record { own = outcomes; is = refl; answered = answered }))
+
+  pub foreseen_stopped : (stop : Stop) → IsStopped shelf (scenarios_command line.problem.now line.changes.now) stop → IsStopped shelf (command_of task) stop
+  foreseen_stopped stop stopped = let P : Task → Type 0 = λ t. IsStopped shelf (command_of t) stop in subst P (sym are) stopped
+
 given_few : (given : Option Word) (workers : ℕ) → AsksWorkers given workers → workers ≤ MOST_WORKERS
 given_few None workers is = omega (arith, is)
 given_few (Some word) workers (number, few) = few
@@ -301,3 +391,19 @@ pub few_workers : (words : List Word) (task : Task) (line : DeskLine) → Asks w
 few_workers words task line asks is =
     let desk_asks : Asks words (desk (five_names (named line.hotel) line.script.now) line.workers) = subst (Asks words) is asks in
     given_few desk_asks.given line.workers desk_asks.workers_are
+
+-- the line of a portfolio, and the end of its call
+module _ (words : List Word) (shelf : Fetches) (task : Task) (line : PortfolioLine) (asks : Asks words task) (is : IsPortfolioOf task line) where
+  pub ran_all_has : (runs : List RanValue) → IsAnswered shelf.before.held (portfolio_command line.list.now line.workers) runs → HasEnd words shelf (Answered (RanAll runs))
+  ran_all_has runs answered =
+      let P : Task → Type 0 = λ t. IsAnswerOf shelf.before.held (command_of t) (RanAll runs) in
+      (task, asks, subst P (sym is) (record { own = runs; is = refl; answered = answered }))
+
+  pub ran_all_stopped : (stop : Stop) → IsStopped shelf (portfolio_command line.list.now line.workers) stop → IsStopped shelf (command_of task) stop
+  ran_all_stopped stop stopped = let P : Task → Type 0 = λ t. IsStopped shelf (command_of t) stop in subst P (sym is) stopped
+
+-- and it has no more workers than there may be
+pub few_workers_each : (words : List Word) (task : Task) (line : PortfolioLine) → Asks words task → IsPortfolioOf task line → line.workers ≤ MOST_WORKERS
+few_workers_each words task line asks is =
+    let these : Asks words (portfolio line.list.now line.workers) = subst (Asks words) is asks in
+    given_few these.given line.workers these.workers_are

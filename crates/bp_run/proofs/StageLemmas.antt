@@ -182,3 +182,7 @@ follows_made shelf made a first next is same leaves = record { answers = (is, sa
 -- a call that touches no file
 pub leaves_same : (at : Shelved) → Leaves (record { before = at; now = at })
 leaves_same at = record { held = refl; steady = λ s. s; faults = omega arith; fetches = omega arith }
+
+-- want of memory behind a plan that gave its value
+pub follows_then_nothing : {A : Type 0} (shelf : Fetches) (plan : Plan A) (first next : ℕ) (a : A) (stop : Stop) → stop ≡ Memory → Follows shelf plan first next (Ok a) → Follows shelf plan first next (Err stop)
+follows_then_nothing shelf plan first next a stop is follows = follows_nothing shelf plan first next stop is follows.leaves

@@ -1,7 +1,7 @@
 -- What a call has to know of a command: what it stands on and what it answers.
 use Rattle.std.specs.Prelude.{◌≡◌, ℕ, Option, Result, Ok, Err}
 use Rattle.bp_edges.specs.Held.{Files}
-use Rattle.bp_run.specs.Stages.{Plan, done, Gives}
+use Rattle.bp_run.specs.Stages.{Plan, Gives}
 use Rattle.bp_run.specs.Fetches.{Fetches}
 use Rattle.bp_run.specs.Stops.{StopsIn, NeverFails}
 use Rattle.bp_run.specs.declared.stop.Stop.{Stop}
@@ -16,17 +16,6 @@ pub record Command : Type 1 where
   pub IsRight : Given → Own → Type 0
   pub IsServed : Given → Type 0
   pub among : Own → Answer
-
--- a command that is not there has no file and no answer
-abbrev pub no_command : Command
-no_command = record {
-  Given = Unit {0};
-  plan = done tt;
-  Own = ⊥;
-  IsRight = λ g own. ⊥;
-  IsServed = λ g. ⊥;
-  among = λ own. absurd own;
-}
 
 -- the command's files gave something, and this is a right answer to it
 pub record IsAnswered (held : Option Files) (command : Command) (own : command.Own) : Type 0 where

@@ -1,7 +1,7 @@
 -- `desk`: the sessions of a script and optimisers beside them on one desk, down to the text of its one history.
 --
--- What a history is that such a run may leave, and when it is complete, closed or cut, is said in `DeskRun` of the crate
--- `bp_desk_run`, in the words of the desk alone.
+-- What is said of the closed desk is `IsRightRun` of the crate `bp_portfolio`; what a history is that such a run may leave,
+-- and when it is complete, closed or cut, is said in `DeskRun` of the crate `bp_desk_run`, in the words of the desk alone.
 use Rattle.std.specs.Prelude.{◌≡◌, ℕ, ◌+◌, ◌/◌, ◌≤◌, true, false, if◌then◌else◌, List}
 use Rattle.bp_types.specs.House.{Inn}
 use Rattle.bp_types.specs.declared.command.Command.{Command}
@@ -9,6 +9,7 @@ use Rattle.bp_core.specs.Lines.{History, vectors}
 use Rattle.bp_journal.specs.Journals.{journal_text}
 use Rattle.bp_desk_run.specs.DeskRun.{IsDeskRun, IsComplete, IsClosed, IsCut, HasRoomFor, all_commands, lead_of}
 use Rattle.bp_desk_run.specs.declared.callers.Ran.{Ran}
+use Rattle.bp_portfolio.specs.Desks.{Staged, IsRightRun}
 use Rattle.bp_cli.specs.Words.{Word}
 use Rattle.bp_run.specs.Stages.{Plan, done, ask, followed_by}
 use Rattle.bp_run.specs.HotelPlan.{HotelNames, hotel_plan}
@@ -19,11 +20,6 @@ use Rattle.bp_run.specs.declared.status.Status.{Status}
 use Rattle.bp_run.specs.declared.status.Status.TheVariants.{Done, Unfinished}
 use Rattle.bp_run.specs.declared.end.Answer.TheVariants.{Ran as RanAnswer}
 
--- a house, and what each session asks of its desk
-pub record Staged : Type 0 where
-  pub house : Inn
-  pub scripts : List (List Command)
-
 -- a script of a hotel's sessions
 abbrev pub script_plan : Word → OpenHotel → Plan Staged
 script_plan script inn =
@@ -32,19 +28,6 @@ script_plan script inn =
 -- a hotel's four files, and a script of its sessions
 abbrev pub desk_plan : HotelNames → Word → Plan Staged
 desk_plan names script = followed_by (hotel_plan names) (λ inn. script_plan script inn)
-
--- whatever the interleaving was, what is said of the closed desk, with H its one history
-pub record IsRightRun (workers : ℕ) (g : Staged) (ran : Ran) : Type 0 where
-  -- H is a desk run of the house and the script that were read
-  pub run : IsDeskRun g.house g.scripts workers ran.book.history
-  -- status 0: every session made all of its commands, and no change stands after the last vector's position
-  pub whole : ran.whole ≡ true → IsComplete g.scripts ran.book.history × IsClosed ran.book.history
-  -- status 7: the house allowed no entry more, or no vector more
-  pub cut : ran.whole ≡ false → IsCut g.house g.scripts ran.book.history
-  -- two vectors at most, and one more for every `lead` commands of the script
-  pub few_vectors : vectors ran.book.history ≤ 2 + all_commands g.scripts / lead_of g.house
-  -- a house with room for the script is not cut
-  pub room : HasRoomFor g.house (all_commands g.scripts) → ran.whole ≡ true
 
 -- the run of a desk with so many optimisers; it is served where the house has room for the script
 abbrev pub desk_command : HotelNames → Word → ℕ → LineCommand

@@ -4,9 +4,9 @@ use Rattle.bp_edges.specs.Counts.{Rose}
 use Rattle.bp_edges.specs.Held.{Files, Fetch}
 use Rattle.bp_edges.specs.Writing.{Appended, AppendedPrefix}
 use Rattle.bp_cli.specs.Words.{Word}
-use Rattle.bp_cli.specs.Tasks.{Task, FiveNames, desk, Asks}
+use Rattle.bp_cli.specs.Tasks.{Task, FiveNames, desk, scenarios, Asks, portfolio}
 use Rattle.bp_run.specs.HotelPlan.{HotelNames, named}
-use Rattle.bp_run.specs.Landed.{AreServed}
+use Rattle.bp_run.specs.Served.{AreServed}
 use Rattle.bp_run.specs.Statuses.{status_number}
 use Rattle.bp_run.specs.Stages.{ComesAt, HoldsFiles, AreGood}
 use Rattle.bp_run.specs.Fetches.{Fetches, Fails, IsRefusedFor}
@@ -18,6 +18,8 @@ use Rattle.bp_run.specs.declared.status.Status.TheVariants as status
 use Rattle.bp_run.specs.declared.stop.Stop.{Stop}
 use Rattle.bp_run.specs.declared.stop.Stop.TheVariants as stop
 use Rattle.bp_run.specs.declared.outcome.DeskLine.{DeskLine}
+use Rattle.bp_run.specs.declared.outcome.ScenariosLine.{ScenariosLine}
+use Rattle.bp_run.specs.declared.outcome.PortfolioLine.{PortfolioLine}
 use Rattle.bp_run.specs.declared.end.End.{End}
 use Rattle.bp_run.specs.declared.end.End.TheVariants.{NotPlain, Fault, Refused, Answered}
 
@@ -52,6 +54,14 @@ five_names n last = record { hotel = n.hotel; stays = n.stays; forecast = n.fore
 abbrev pub IsDeskOf : Task → DeskLine → Type 0
 IsDeskOf task line = task ≡ desk (five_names (named line.hotel) line.script.now) line.workers
 
+-- the task is that of scenarios with these names
+abbrev pub AreScenariosOf : Task → ScenariosLine → Type 0
+AreScenariosOf task line = task ≡ scenarios line.problem.now line.changes.now
+
+-- the task is that of a portfolio with this list and this number of workers
+abbrev pub IsPortfolioOf : Task → PortfolioLine → Type 0
+IsPortfolioOf task line = task ≡ portfolio line.list.now line.workers
+
 -- the words and the shelf have this status and this text
 pub record Outcome (words : List Word) (shelf : Fetches) (number : ℕ) (text : List ℕ) : Type 0 where
   pub end : End
@@ -78,7 +88,7 @@ pub record HoldsAll (words : List Word) (held : Option Files) : Type 0 where
   pub told : held ≡ Some files
   pub each : (task : Task) → Asks words task → HoldsFiles files (command_of task).plan
 
--- the words ask for a command that is there, and the shelf tells that it holds every file that they come to, short
+-- the words are a plain line, and the shelf tells that it holds every file that they come to, short
 -- enough and accepted; what the files give is served
 pub record IsComplete (words : List Word) (held : Option Files) : Type 0 where
   pub plain : AreServed words

@@ -1,12 +1,10 @@
 -- `judge` and `replay`: whether a journal is a legal history of a house.
-use Rattle.std.specs.Prelude.{◌≡◌, ℕ, List, [], ◌∷◌, ◌++◌, length, replicate, codes}
+use Rattle.std.specs.Prelude.{◌≡◌, ℕ, List, [], ◌∷◌, ◌++◌, length, codes}
 use Rattle.std.specs.Fmt.{decimal}
-use Rattle.bp_types.specs.Program.{Program}
 use Rattle.bp_types.specs.House.{Inn}
-use Rattle.bp_types.specs.declared.command.Limits.{Limits}
-use Rattle.bp_types.specs.declared.limits.TheConstants.{MOST_STALE_AFTER, MOST_ENTRIES, MOST_PUBLICATIONS}
 use Rattle.bp_core.specs.Lines.{History}
 use Rattle.bp_core.specs.Legal.{IsLegal}
+use Rattle.bp_problem_house.specs.Houses.{house_of_problem}
 use Rattle.bp_judge.specs.Judging.{IsFirstIllegal}
 use Rattle.bp_judge.specs.declared.judgement.Cause.{Cause}
 use Rattle.bp_judge.specs.declared.judgement.Cause.TheVariants as cause
@@ -45,14 +43,6 @@ ruling_command plan = record {
   IsServed = λ g. Unit {0};
   among = Judged;
 }
-
--- the greatest limits, in whole rooms
-abbrev pub greatest_limits : Limits
-greatest_limits = record { stale_after = MOST_STALE_AFTER; entries = MOST_ENTRIES; publications = MOST_PUBLICATIONS; unit = 1 }
-
--- the house of a problem: its rooms, none of them sold, and its stays
-abbrev pub house_of_problem : Program → Inn
-house_of_problem p = record { rooms = p.rooms; sold = replicate (length p.rooms) 0; stays = p.stays; limits = greatest_limits }
 
 -- a journal of a house
 abbrev pub journal_plan : Word → Inn → Plan Charge

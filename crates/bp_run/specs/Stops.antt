@@ -1,5 +1,5 @@
 -- Why the files of a task give no value, and what a call says that reads them.
-use Rattle.std.specs.Prelude.{◌≡◌, ℕ, Result, Ok, Err}
+use Rattle.std.specs.Prelude.{◌≡◌, ℕ, List, Result, Ok, Err}
 use Rattle.std.specs.Option.{ForSome}
 use Rattle.bp_cli.specs.Words.{Word}
 use Rattle.bp_run.specs.Stages.{Plan, Gives, ComesAt, HoldsFiles}
@@ -33,6 +33,11 @@ IsFault (Refused k cause) = ⊥
 abbrev pub Answers : {A : Type 0} → Fetches → Plan A → ℕ → ℕ → Result A Stop → Type 0
 Answers shelf plan first next (Ok a) = Gives shelf.before.held plan first next a
 Answers shelf plan first next (Err stop) = StopsIn shelf plan first stop
+
+-- a list in the place of an Ok that says nothing
+abbrev pub of_all : {A : Type 0} → List A → Result (Unit {0}) Stop → Result (List A) Stop
+of_all all (Ok nothing) = Ok all
+of_all all (Err stop) = Err stop
 
 -- a steady shelf that holds the plan's files does not fail
 abbrev pub NeverFails : {A : Type 0} → Fetches → Plan A → Stop → Type 0

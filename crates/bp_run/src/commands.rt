@@ -1,17 +1,19 @@
 //! The commands, one file each: its answer, and the status and the text of the answer.
 ghost use Rattle.std.specs.Prelude.{◌≡◌, ◌↔◌, IsTrue, IfOk};
 ghost use Rattle.bp_cli.specs.Asked.{asked};
-ghost use Rattle.bp_run.specs.Landed.{IsPlainTask};
+ghost use Rattle.bp_run.specs.Served.{IsPlainTask};
+ghost use Rattle.bp_run.specs.Demo.{HasDemoNumbers};
 ghost use Rattle.bp_run.specs.Puts.{onto, PutsText};
 ghost use Rattle.bp_run.specs.Fetches.{over};
 ghost use Rattle.bp_run.specs.Commands.{command_of, answer_status, answer_said, IsPlainAnswer};
 ghost use Rattle.bp_run.specs.Command.{Brings, Concludes};
 ghost use Rattle.bp_run.specs.HotelPlan.{named};
 ghost use Rattle.bp_run.specs.Judge.{ruling_command, replay_plan};
+ghost use Rattle.bp_run.specs.Report.{report_command};
 
 use crate::house::HotelFiles;
 use crate::stop::Stop;
-use crate::{Answer, Ruling, Status};
+use crate::{Answer, ReportAnswer, Ruling, Status};
 use bp_cert::text_of_certificate;
 use bp_cli::{Name, Task};
 use bp_edges::{Shelf, Sink, WriteError};
@@ -20,12 +22,17 @@ use bp_types::Span;
 use std::alloc::Global;
 
 pub mod check;
+pub mod demo;
 pub mod desk;
 pub mod group;
 pub mod judge;
+pub mod portfolio;
+pub mod report;
+pub mod scenarios;
+pub mod sheet;
 pub mod solve;
 
-/// Whether the task's command is there, and runs in one thread.
+/// Whether the task's command runs in one thread.
 pub fn is_plain(task: &Task<'_>) -> bool
     ensures { IsTrue result ↔ IsPlainTask (asked task.now) }
 {
@@ -36,6 +43,9 @@ pub fn is_plain(task: &Task<'_>) -> bool
             | Task::Group { .. }
             | Task::Judge { .. }
             | Task::Replay { .. }
+            | Task::Report { .. }
+            | Task::Sheet { .. }
+            | Task::Demo { .. }
     )
 }
 
@@ -73,9 +83,27 @@ fn replayed<S: Shelf>(
     judge::replay(alloc, shelf, &hotel, journal.text())
 }
 
+// What `report` answers to its five names.
+fn reported<S: Shelf>(
+    alloc: Global,
+    shelf: &mut S,
+    hotel: &Name<'_>,
+    stays: &Name<'_>,
+    forecast: &Name<'_>,
+    bookings: &Name<'_>,
+    journal: &Name<'_>,
+) -> Result<ReportAnswer, Stop>
+    ensures { Brings (over S.held S.faults S.fetches S.last S.steady shelf.old shelf.new)
+        (report_command (record { hotel = hotel.now; stays = stays.now; forecast = forecast.now; bookings = bookings.now }) journal.now) result }
+{
+    let hotel = hotel_files(hotel, stays, forecast, bookings);
+    report::answer(alloc, shelf, &hotel, journal.text())
+}
+
 /// The answer to a task. Its files are read in their order, up to the first that gives no value.
 pub fn answer<S: Shelf>(alloc: Global, shelf: &mut S, task: &Task<'_>) -> Result<Answer, Stop>
-    requires { IsPlainTask (asked task.now) }
+    requires plain { IsPlainTask (asked task.now) }
+    requires numbers { HasDemoNumbers (asked task.now) }
     ensures plain { IfOk result IsPlainAnswer }
     ensures concludes { Concludes (over S.held S.faults S.fetches S.last S.steady shelf.old shelf.new) (command_of (asked task.now)) result }
 {
@@ -111,12 +139,29 @@ pub fn answer<S: Shelf>(alloc: Global, shelf: &mut S, task: &Task<'_>) -> Result
         } => {
             Ok(Answer::Judged(replayed(alloc, shelf, hotel, stays, forecast, bookings, journal)?))
         }
-        Task::Desk { .. }
-        | Task::Report { .. }
-        | Task::Demo { .. }
-        | Task::Scenarios { .. }
-        | Task::Sheet { .. }
-        | Task::Portfolio { .. } => unreachable!(),
+        Task::Report {
+            hotel,
+            stays,
+            forecast,
+            bookings,
+            journal,
+        } => {
+            Ok(Answer::Reported(reported(alloc, shelf, hotel, stays, forecast, bookings, journal)?))
+        }
+        Task::Sheet { problem } => Ok(Answer::Sheeted(sheet::answer(
+            alloc,
+            shelf,
+            problem.text(),
+        )?)),
+        Task::Demo {
+            seed,
+            nights,
+            rooms,
+            stays,
+        } => {
+            Ok(Answer::Demonstrated(demo::answer(alloc, shelf, *seed, *nights, *rooms, *stays)?))
+        }
+        Task::Desk { .. } | Task::Scenarios { .. } | Task::Portfolio { .. } => unreachable!(),
     }
 }
 
@@ -130,10 +175,15 @@ pub fn status_of(answer: &Answer) -> Status
         Answer::Grouped(group) => group::status_of(group),
         Answer::Judged(ruling) => judge::status_of(*ruling),
         Answer::Ran(ran) => desk::status_of(ran),
+        Answer::Sheeted(_) => Status::Done,
+        Answer::Reported(answer) => report::status_of(answer),
+        Answer::Demonstrated(_) => Status::Done,
+        Answer::Foreseen(_) => Status::Done,
+        Answer::RanAll(runs) => portfolio::status_of(runs),
     }
 }
 
-/// Writes the text of an answer. That of a run is never built whole.
+/// Writes the text of an answer. Those of a run and of a report are never built whole.
 pub fn write<K: Sink>(alloc: Global, answer: &Answer, out: &mut K) -> Result<(), WriteError>
     ensures { PutsText (onto K.written K.faults K.steady out.old out.new) (answer_said answer.now) result }
 {
@@ -145,5 +195,10 @@ pub fn write<K: Sink>(alloc: Global, answer: &Answer, out: &mut K) -> Result<(),
         Answer::Grouped(group) => write_text(alloc, &group::text_of(alloc, group)?, out),
         Answer::Judged(ruling) => write_text(alloc, &judge::text_of(alloc, *ruling)?, out),
         Answer::Ran(ran) => bp_journal::write(alloc, &ran.book, out),
+        Answer::Sheeted(sheet) => write_text(alloc, sheet.text(), out),
+        Answer::Reported(answer) => report::write(alloc, answer, out),
+        Answer::Demonstrated(demo) => write_text(alloc, demo.text(), out),
+        Answer::Foreseen(outcomes) => bp_scenarios::write_outcomes(alloc, outcomes.list(), out),
+        Answer::RanAll(runs) => portfolio::write(alloc, runs, out),
     }
 }

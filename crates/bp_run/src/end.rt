@@ -1,8 +1,10 @@
 //! How a call of the program ends.
-use crate::{GroupAnswer, Ruling};
+use crate::{GroupAnswer, Outcomes, ReportAnswer, Ruling, Runs};
 use bp_cert::Verdict;
+use bp_demo::DemoText;
 use bp_desk_run::Ran;
 use bp_hotelfile::HotelRefusal;
+use bp_sheets::SheetText;
 use bp_stayfile::TableRefusal;
 use bp_text::TextError;
 use bp_types::Certificate;
@@ -40,12 +42,22 @@ pub enum Answer {
     Judged(Ruling),
     /// A desk ran, and was closed.
     Ran(Ran),
+    /// The sheet of a problem was made.
+    Sheeted(SheetText),
+    /// A journal was judged, and its report made where it is legal.
+    Reported(ReportAnswer),
+    /// A demo was made.
+    Demonstrated(DemoText),
+    /// Scenarios were answered, each by its outcome.
+    Foreseen(Outcomes),
+    /// The desks of several hotels ran, and were closed.
+    RanAll(Runs),
 }
 
 /// How a call ends where there is memory and the sink takes the text. Files count from 1, in the order of the words.
 #[derive(Drop)]
 pub enum End {
-    /// The words are no plain line, or ask for a command that is not there yet.
+    /// The words are no plain line.
     NotPlain,
     /// The shelf failed at this file.
     Fault { file: u64 },

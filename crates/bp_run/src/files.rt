@@ -19,7 +19,9 @@ pub mod certificate;
 pub mod forecast;
 pub mod hotel;
 pub mod journal;
+pub mod list;
 pub mod problem;
+pub mod scenarios;
 pub mod script;
 pub mod stays;
 

@@ -2,13 +2,14 @@
 ghost use Rattle.std.specs.Prelude.{◌≡◌, ◌≢◌, IfOk, MatchOption};
 ghost use Rattle.bp_cli.specs.Words.{texts};
 ghost use Rattle.bp_cli.specs.Asked.{asked};
+ghost use Rattle.bp_cli.specs.Tasks.{Asks};
 ghost use Rattle.bp_run.specs.Fetches.{over};
-ghost use Rattle.bp_run.specs.Landed.{MayStartThreads, IsDesk};
+ghost use Rattle.bp_run.specs.Served.{MayStartThreads, IsDesk, AreScenarios, IsPortfolio};
 ghost use Rattle.bp_run.specs.Lines.{end_status};
-ghost use Rattle.bp_run.specs.Ends.{HasEnd, HoldsAll, HasStopped, IsPlainEnd, IsDeskOf};
+ghost use Rattle.bp_run.specs.Ends.{HasEnd, HoldsAll, HasStopped, IsPlainEnd, IsDeskOf, AreScenariosOf, IsPortfolioOf};
 ghost use Rattle.bp_run.specs.declared.status.Status.TheVariants.{Fault};
 
-use crate::commands::desk;
+use crate::commands::{desk, portfolio, scenarios};
 use crate::house::HotelFiles;
 use crate::stop::Stop;
 use crate::{Answer, End, commands};
@@ -27,8 +28,22 @@ pub struct DeskLine<'a> {
     pub workers: u32,
 }
 
-// How a call ends that was stopped at a file.
-fn stopped(stop: Stop) -> Result<End, Memory>
+/// The names of a line of scenarios.
+#[derive(Clone, Copy, Debug)]
+pub struct ScenariosLine<'a> {
+    pub problem: &'a str,
+    pub changes: &'a str,
+}
+
+/// The name of the list and the number of workers of a portfolio's line.
+#[derive(Clone, Copy, Debug)]
+pub struct PortfolioLine<'a> {
+    pub list: &'a str,
+    pub workers: u32,
+}
+
+/// How a call ends that was stopped at a file.
+pub(crate) fn stopped(stop: Stop) -> Result<End, Memory>
     ensures { HasStopped stop result }
 {
     match stop {
@@ -39,7 +54,7 @@ fn stopped(stop: Stop) -> Result<End, Memory>
 }
 
 /// How the words of a line for one thread end over the shelf, before anything is written.
-#[tactic(auto, using(crate::proofs::EndLemmas::not_plain_task, crate::proofs::EndLemmas::stopped_has, crate::proofs::EndLemmas::stopped_unfailing, crate::proofs::EndLemmas::stopped_plain, crate::proofs::EndLemmas::answer_is_no_fault))]
+#[tactic(auto, using(crate::proofs::EndLemmas::demo_numbers, crate::proofs::EndLemmas::not_plain_task, crate::proofs::EndLemmas::stopped_has, crate::proofs::EndLemmas::stopped_unfailing, crate::proofs::EndLemmas::stopped_plain, crate::proofs::EndLemmas::answer_is_no_fault))]
 pub fn end_of<S: Shelf>(alloc: Global, words: &[String], shelf: &mut S) -> Result<End, Memory>
     requires { MayStartThreads (texts words.now) → ⊥ }
     ensures end { IfOk result (HasEnd (texts words.now) (over S.held S.faults S.fetches S.last S.steady shelf.old shelf.new)) }
@@ -82,8 +97,86 @@ fn desk_of<'a>(task: &Task<'a>) -> Option<DeskLine<'a>>
     }
 }
 
+// What a line of scenarios names, where the task is that of one.
+fn scenarios_of<'a>(task: &Task<'a>) -> Option<ScenariosLine<'a>>
+    ensures { MatchOption result (AreScenarios (asked task.now) → ⊥) (AreScenariosOf (asked task.now)) }
+{
+    match task {
+        Task::Scenarios { problem, changes } => Some(ScenariosLine {
+            problem: problem.text(),
+            changes: changes.text(),
+        }),
+        _ => None,
+    }
+}
+
+// What a portfolio's line names, where the task is that of one.
+fn portfolio_of<'a>(task: &Task<'a>) -> Option<PortfolioLine<'a>>
+    ensures { MatchOption result (IsPortfolio (asked task.now) → ⊥) (IsPortfolioOf (asked task.now)) }
+{
+    match task {
+        Task::Portfolio { list, workers } => Some(PortfolioLine {
+            list: list.text(),
+            workers: *workers,
+        }),
+        _ => None,
+    }
+}
+
+// How the words of a line end that may start threads and is no desk's and none of scenarios.
+#[tactic(auto, using(crate::proofs::EndLemmas::not_threads_task, crate::proofs::EndLemmas::few_workers_each, crate::proofs::EndLemmas::ran_all_has, crate::proofs::EndLemmas::ran_all_stopped, crate::proofs::EndLemmas::stopped_has, crate::proofs::EndLemmas::stopped_unfailing, crate::proofs::EndLemmas::answer_is_no_fault))]
+fn end_of_portfolio<R: Wait + Threads + Sync, S: Shelf, G: Gate>(
+    rt: &R,
+    alloc: Global,
+    words: &[String],
+    shelf: &mut S,
+    task: &Task<'_>,
+    gate: &G,
+) -> Result<End, Memory>
+    requires may { MayStartThreads (texts words.now) }
+    requires asks { Asks (texts words.now) (asked task.now) }
+    requires no_desk { IsDesk (asked task.now) → ⊥ }
+    requires no_scenarios { AreScenarios (asked task.now) → ⊥ }
+    ensures end { IfOk result (HasEnd (texts words.now) (over S.held S.faults S.fetches S.last S.steady shelf.old shelf.new)) }
+    ensures unfailing { S.steady shelf.old → HoldsAll (texts words.now) (S.held shelf.old) → IfOk result (λ end. end_status end ≢ Fault) }
+{
+    law::tasks_are_unique();
+    let Some(line) = portfolio_of(task) else {
+        return Ok(End::NotPlain);
+    };
+    match portfolio::answer(rt, alloc, shelf, line.list, line.workers, gate) {
+        Ok(runs) => Ok(End::Answered(Answer::RanAll(runs))),
+        Err(stop) => stopped(stop),
+    }
+}
+
+// How the words of a line end that may start threads and is no desk's.
+#[tactic(auto, using(crate::proofs::EndLemmas::foreseen_has, crate::proofs::EndLemmas::foreseen_stopped, crate::proofs::EndLemmas::stopped_has, crate::proofs::EndLemmas::stopped_unfailing, crate::proofs::EndLemmas::answer_is_no_fault))]
+fn end_beside_desk<R: Wait + Threads + Sync, S: Shelf, G: Gate>(
+    rt: &R,
+    alloc: Global,
+    words: &[String],
+    shelf: &mut S,
+    task: &Task<'_>,
+    gate: &G,
+) -> Result<End, Memory>
+    requires may { MayStartThreads (texts words.now) }
+    requires asks { Asks (texts words.now) (asked task.now) }
+    requires no_desk { IsDesk (asked task.now) → ⊥ }
+    ensures end { IfOk result (HasEnd (texts words.now) (over S.held S.faults S.fetches S.last S.steady shelf.old shelf.new)) }
+    ensures unfailing { S.steady shelf.old → HoldsAll (texts words.now) (S.held shelf.old) → IfOk result (λ end. end_status end ≢ Fault) }
+{
+    let Some(line) = scenarios_of(task) else {
+        return end_of_portfolio(rt, alloc, words, shelf, task, gate);
+    };
+    match scenarios::answer(rt, alloc, shelf, line.problem, line.changes) {
+        Ok(outcomes) => Ok(End::Answered(Answer::Foreseen(outcomes))),
+        Err(stop) => stopped(stop),
+    }
+}
+
 /// How the words of a line that may start threads end over the shelf, before anything is written.
-#[tactic(auto, using(crate::proofs::EndLemmas::not_desk_task, crate::proofs::EndLemmas::few_workers, crate::proofs::EndLemmas::ran_has, crate::proofs::EndLemmas::ran_stopped, crate::proofs::EndLemmas::stopped_has, crate::proofs::EndLemmas::stopped_unfailing, crate::proofs::EndLemmas::answer_is_no_fault))]
+#[tactic(auto, using(crate::proofs::EndLemmas::few_workers, crate::proofs::EndLemmas::ran_has, crate::proofs::EndLemmas::ran_stopped, crate::proofs::EndLemmas::stopped_has, crate::proofs::EndLemmas::stopped_unfailing, crate::proofs::EndLemmas::answer_is_no_fault))]
 pub fn end_with_threads<R: Wait + Threads + Sync, S: Shelf, G: Gate>(
     rt: &R,
     alloc: Global,
@@ -102,7 +195,7 @@ pub fn end_with_threads<R: Wait + Threads + Sync, S: Shelf, G: Gate>(
         Err(WordsError::Memory) => return Err(Memory),
     };
     let Some(line) = desk_of(&task) else {
-        return Ok(End::NotPlain);
+        return end_beside_desk(rt, alloc, words, shelf, &task, gate);
     };
     match desk::answer(
         rt,

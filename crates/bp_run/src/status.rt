@@ -9,7 +9,7 @@ pub enum Status {
     Done = 0,
     /// A certificate was checked and is not optimal, or a journal was judged and is not legal.
     Wrong = 1,
-    /// The words are no plain line, or ask for a command that is not there yet.
+    /// The words are no plain line.
     NotPlain = 2,
     /// A file is refused, or the nights or rooms of a group are.
     Refused = 3,

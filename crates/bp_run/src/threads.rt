@@ -1,7 +1,7 @@
 //! The commands that may start threads.
 ghost use Rattle.std.specs.Prelude.{◌↔◌, IsTrue};
 ghost use Rattle.bp_cli.specs.Words.{texts};
-ghost use Rattle.bp_run.specs.Landed.{NamesThreads, MayStartThreads};
+ghost use Rattle.bp_run.specs.Served.{NamesThreads, MayStartThreads};
 
 // Whether this is a command that may start threads.
 fn names_threads(command: &str) -> bool

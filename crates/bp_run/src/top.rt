@@ -1,7 +1,7 @@
 //! The whole program.
 ghost use Rattle.std.specs.Prelude.{◌≤◌};
 ghost use Rattle.bp_cli.specs.Words.{texts};
-ghost use Rattle.bp_run.specs.Landed.{MayStartThreads};
+ghost use Rattle.bp_run.specs.Served.{MayStartThreads};
 ghost use Rattle.bp_run.specs.Fetches.{over};
 ghost use Rattle.bp_run.specs.Puts.{onto};
 ghost use Rattle.bp_run.specs.Ends.{Serves};
@@ -34,6 +34,8 @@ pub fn run_plain<S: Shelf, K: Sink>(
     law::problems_have_one_spelling();
     law::certificates_have_one_spelling();
     bp_journal::law::journals_have_one_spelling();
+    bp_scenarios::law::scenarios_have_one_spelling();
+    bp_portfolio::law::lists_have_one_spelling();
     match end_of(alloc, words, shelf) {
         Ok(end) => finish(alloc, &end, out).number(),
         Err(Memory) => Status::NoMemory.number(),
@@ -58,6 +60,8 @@ pub fn run<R: Wait + Threads + Sync, S: Shelf, K: Sink, G: Gate>(
     law::problems_have_one_spelling();
     law::certificates_have_one_spelling();
     bp_journal::law::journals_have_one_spelling();
+    bp_scenarios::law::scenarios_have_one_spelling();
+    bp_portfolio::law::lists_have_one_spelling();
     if !may_start_threads(words) {
         return run_plain(alloc, words, shelf, out);
     }

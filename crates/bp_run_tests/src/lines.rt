@@ -66,6 +66,7 @@ pub(crate) fn served() -> &'static [Line] {
         ("group A 1 2 2", 3, "noroom 1\n"),
         ("group A 0 000000003 10000", 3, "noroom 0\n"),
         ("group A 2 4 1", 3, "refused span\n"),
+        ("group A 0 4 1", 3, "refused span\n"),
         ("group A 2 2 1", 3, "refused span\n"),
         ("group A 999999999 0 1", 3, "refused span\n"),
         // A journal is judged by the problem's house, or by the hotel's.
@@ -105,6 +106,7 @@ pub(crate) fn served() -> &'static [Line] {
         ("solve later", 3, "refused 1 badline 1\n"),
         ("solve long", 3, "refused 1 limit 2\n"),
         ("check later zero-in-front", 3, "refused 1 badline 1\n"),
+        ("check C A", 3, "refused 1 badline 1\n"),
         ("check A zero-in-front", 3, "refused 2 badline 2\n"),
         ("check A great-value", 3, "refused 2 limit 2\n"),
         ("check A goes-on", 3, "refused 2 trailing 6\n"),
@@ -135,7 +137,7 @@ pub(crate) fn not_served() -> &'static [&'static str] {
         "desk H S F B X --workers=2",
         "desk H S F B",
         "scenarios A",
-        "sheet A",
+        "sheet",
         "portfolio",
     ]
 }
@@ -152,6 +154,7 @@ pub(crate) fn failing() -> &'static [(&'static str, u64, u64, u8, &'static str)]
         ("check A C", 2, 0, 4, "fault 2\n"),
         ("solve A", 1, 0, 4, "fault 1\n"),
         ("replay H S F B J", 3, 0, 4, "fault 3\n"),
+        ("replay H S F B J", 4, 0, 4, "fault 4\n"),
         ("replay H S F B J", 5, 0, 4, "fault 5\n"),
         ("replay H S F B J", 0, 1, 5, ""),
         ("desk H2 S F B three-calls --workers 0", 0, 1, 5, ""),

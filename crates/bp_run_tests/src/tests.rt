@@ -8,7 +8,7 @@ use std::test::Fail;
 use std::thread::Threads;
 
 /// The words of a line, where one space parts two words: two spaces stand around an empty word.
-fn words_of(alloc: Global, line: &str) -> Result<Vec<String>, AllocError> {
+pub(crate) fn words_of(alloc: Global, line: &str) -> Result<Vec<String>, AllocError> {
     let mut words = Vec::new(alloc);
     if line.is_empty() {
         return Ok(words);
@@ -19,7 +19,7 @@ fn words_of(alloc: Global, line: &str) -> Result<Vec<String>, AllocError> {
     Ok(words)
 }
 
-fn held(alloc: Global, name: &str, bytes: &[u8]) -> Result<HeldFile, AllocError> {
+pub(crate) fn held(alloc: Global, name: &str, bytes: &[u8]) -> Result<HeldFile, AllocError> {
     let name = String::from_str(alloc, name)?;
     let bytes = Vec::from_slice(alloc, bytes)?;
     Ok(HeldFile::new(name, bytes))

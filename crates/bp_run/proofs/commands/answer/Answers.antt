@@ -1,5 +1,8 @@
-use Rattle.std.proofs.Common.{refl, sym}
+use Rattle.std.proofs.Common.{refl, sym, subst}
 use Rattle.std.proofs.lemmas.Result.{err_from_is_err_and}
+use Rattle.bp_cli.specs.Asked.{asked}
+use Rattle.bp_cli.specs.declared.task.Task.{Task as ReadTask}
+use Rattle.bp_run.specs.Demo.{HasDemoNumbers}
 use Rattle.bp_run.proofs.commands.answer.Goals as goal
 
 pub returns-in_ok-answer-in-Check-clause-concludes : goal.returns-in_ok-answer-in-Check-clause-concludes
@@ -26,3 +29,23 @@ pub returns-in_err-replayed-in-Replay-clause-concludes : goal.returns-in_err-rep
 returns-in_err-replayed-in-Replay-clause-concludes g c =
     let p = err_from_is_err_and c.from_residual-in_err-replayed-in-Replay.result c.from_residual-in_err-replayed-in-Replay.ensures.1 in
     rw (p.1, p.2, c.in-Replay.is) c.in_err-replayed-in-Replay.ensures
+
+pub returns-in_ok-reported-in-Report-clause-concludes : goal.returns-in_ok-reported-in-Report-clause-concludes
+returns-in_ok-reported-in-Report-clause-concludes g c =
+    rw c.in-Report.is (record { own = c.in_ok-reported-in-Report.field-0; is = refl; answered = c.in_ok-reported-in-Report.ensures })
+
+pub returns-in_err-reported-in-Report-clause-concludes : goal.returns-in_err-reported-in-Report-clause-concludes
+returns-in_err-reported-in-Report-clause-concludes g c =
+    let p = err_from_is_err_and c.from_residual-in_err-reported-in-Report.result c.from_residual-in_err-reported-in-Report.ensures.1 in
+    rw (p.1, p.2, c.in-Report.is) c.in_err-reported-in-Report.ensures
+
+pub returns-in_ok-answer-in-Sheet-clause-concludes : goal.returns-in_ok-answer-in-Sheet-clause-concludes
+returns-in_ok-answer-in-Sheet-clause-concludes g c =
+    rw (c.in-Sheet.is, sym c.text-in-Sheet.ensures) (record { own = c.in_ok-answer-in-Sheet.field-0; is = refl; answered = c.in_ok-answer-in-Sheet.ensures })
+
+pub answer-requires-in-Demo : goal.answer-requires-in-Demo
+answer-requires-in-Demo g c = let P : ReadTask → Type 0 = λ t. HasDemoNumbers (asked t) in subst P c.in-Demo.is c.requires.numbers
+
+pub returns-in_ok-answer-in-Demo-clause-concludes : goal.returns-in_ok-answer-in-Demo-clause-concludes
+returns-in_ok-answer-in-Demo-clause-concludes g c =
+    rw c.in-Demo.is (record { own = c.in_ok-answer-in-Demo.field-0; is = refl; answered = c.in_ok-answer-in-Demo.ensures })

@@ -6,7 +6,7 @@ use Rattle.bp_run.proofs.top.run_plain.Goals as goal
 
 pub returns-in-Ok-clause-serves : goal.returns-in-Ok-clause-serves
 returns-in-Ok-clause-serves g c =
-    let law : AreTextsReadOneWay = record { problems = c.problems_have_one_spelling.ensures.reading; certificates = c.certificates_have_one_spelling.ensures.reading; journals = c.journals_have_one_spelling.ensures.reading } in
+    let law : AreTextsReadOneWay = record { problems = c.problems_have_one_spelling.ensures.reading; certificates = c.certificates_have_one_spelling.ensures.reading; journals = c.journals_have_one_spelling.ensures.reading; scenarios = c.scenarios_have_one_spelling.ensures.reading; lists = c.lists_have_one_spelling.ensures.reading } in
     let each = sound law in
     serves _ _ _ c.in-Ok.end c.in-Ok.ensures.end c.in-Ok.ensures.unfailing
     (λ steady all. complete each _ _ c.in-Ok.end all c.in-Ok.ensures.end (c.in-Ok.ensures.unfailing steady (holds_all each _ _ all)))

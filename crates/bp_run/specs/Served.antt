@@ -1,23 +1,9 @@
--- The commands that are there, and those that may start threads.
+-- Which words are served, which tasks run in one thread, and which commands may start threads.
 use Rattle.std.specs.Prelude.{◌≡◌, ◌⊎◌, ℕ, List, [], ◌∷◌, codes}
 use Rattle.bp_cli.specs.Words.{Word}
 use Rattle.bp_cli.specs.Tasks.{Task, FiveNames, check, solve, group, judge, desk, replay, report, demo, scenarios, sheet, portfolio, Asks}
 
--- the task's command is there
-abbrev pub HasLanded : Task → Type 0
-HasLanded (check problem certificate) = Unit {0}
-HasLanded (solve problem) = Unit {0}
-HasLanded (group problem from to rooms) = Unit {0}
-HasLanded (judge problem journal) = Unit {0}
-HasLanded (desk names workers) = Unit {0}
-HasLanded (replay names) = Unit {0}
-HasLanded (report names) = ⊥
-HasLanded (demo seed nights rooms stays) = ⊥
-HasLanded (scenarios problem changes) = ⊥
-HasLanded (sheet problem) = ⊥
-HasLanded (portfolio list workers) = ⊥
-
--- the task's command is there and runs in one thread
+-- the task's command runs in one thread
 abbrev pub IsPlainTask : Task → Type 0
 IsPlainTask (check problem certificate) = Unit {0}
 IsPlainTask (solve problem) = Unit {0}
@@ -25,19 +11,27 @@ IsPlainTask (group problem from to rooms) = Unit {0}
 IsPlainTask (judge problem journal) = Unit {0}
 IsPlainTask (desk names workers) = ⊥
 IsPlainTask (replay names) = Unit {0}
-IsPlainTask (report names) = ⊥
-IsPlainTask (demo seed nights rooms stays) = ⊥
+IsPlainTask (report names) = Unit {0}
+IsPlainTask (demo seed nights rooms stays) = Unit {0}
 IsPlainTask (scenarios problem changes) = ⊥
-IsPlainTask (sheet problem) = ⊥
+IsPlainTask (sheet problem) = Unit {0}
 IsPlainTask (portfolio list workers) = ⊥
 
 -- the task is that of a desk
 abbrev pub IsDesk : Task → Type 0
 IsDesk task = (names : FiveNames) × (workers : ℕ) × (task ≡ desk names workers)
 
--- the words ask for some task whose command is there
+-- the task is that of scenarios
+abbrev pub AreScenarios : Task → Type 0
+AreScenarios task = (problem : Word) × (changes : Word) × (task ≡ scenarios problem changes)
+
+-- the task is that of a portfolio
+abbrev pub IsPortfolio : Task → Type 0
+IsPortfolio task = (list : Word) × (workers : ℕ) × (task ≡ portfolio list workers)
+
+-- the words ask for some task: they are a plain line
 abbrev pub AreServed : List Word → Type 0
-AreServed words = (task : Task) × Asks words task × HasLanded task
+AreServed words = (task : Task) × Asks words task
 
 -- the commands that may start threads
 abbrev pub NamesThreads : Word → Type 0

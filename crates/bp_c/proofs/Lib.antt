@@ -1,0 +1,4 @@
+pub mod Bounds
+pub mod Outcomes
+pub mod Held
+pub mod Delivered

@@ -10,17 +10,18 @@ work="$1"
 crate="$work/crates/house"
 
 . "$here/crates.sh"
-copy_crates "$work" bp_types bp_hotelfile bp_stayfile
+copy_crates "$work" bp_types bp_edges bp_text bp_board bp_ledger bp_core bp_hotelfile bp_stayfile bp_script
 mkdir -p "$crate/src" "$crate/data" "$crate/proofs/tables_of"
 cp "$top"/examples/lindenhof/* "$crate/data/"
-echo 'house: bp_types bp_hotelfile bp_stayfile' >> "$work/crates.txt"
+echo 'house: bp_types bp_hotelfile bp_stayfile bp_script' >> "$work/crates.txt"
 
 cat > "$crate/src/main.rt" <<'RATTLE'
-// Reads the four files of a hotel and prints what they say: house HOTEL STAYS FORECAST BOOKINGS
-// With a fifth word, a number: the fewest nanoseconds that the three tables took in so many readings.
+// Reads the five files of a hotel and prints what they say: house HOTEL STAYS FORECAST BOOKINGS SCRIPT
+// With a sixth word, a number: the fewest nanoseconds that the three tables took in so many readings.
 #![tactic(auto)]
 
 use bp_hotelfile::{Hotel, HotelError, HotelRefusal, read_hotel};
+use bp_script::{Commands, read_script};
 use bp_stayfile::{
     Sold, Stays, TableError, TableRefusal, read_bookings, read_forecast, read_stays,
 };
@@ -70,12 +71,13 @@ impl From<io::Error> for Stop {
     }
 }
 
-// The bytes of the three tables.
+// The bytes of the three tables, and of the script.
 #[derive(Drop)]
 struct Texts {
     stays: Vec<u8>,
     forecast: Vec<u8>,
     bookings: Vec<u8>,
+    script: Vec<u8>,
 }
 
 #[derive(Drop)]
@@ -140,8 +142,18 @@ fn print_tables<R: Print>(rt: &R, tables: &Tables) -> Result<(), io::Error> {
     Ok(())
 }
 
+fn print_script<R: Print>(rt: &R, script: &[Commands]) -> Result<(), io::Error> {
+    for commands in script {
+        println!(rt; "session")?;
+        for command in commands.list() {
+            println!(rt; "{command:?}")?;
+        }
+    }
+    Ok(())
+}
+
 fn run<R: Files + Clock + Print + AllocGlobal>(rt: &R, words: &[String]) -> Result<(), Stop> {
-    let [hotel, stays, forecast, bookings, rest @ ..] = words else {
+    let [hotel, stays, forecast, bookings, script, rest @ ..] = words else {
         return Err(Stop::Words);
     };
     let hotel = read_hotel(rt.alloc(), &fs::read(rt, hotel.as_str())?)?;
@@ -149,12 +161,15 @@ fn run<R: Files + Clock + Print + AllocGlobal>(rt: &R, words: &[String]) -> Resu
         stays: fs::read(rt, stays.as_str())?,
         forecast: fs::read(rt, forecast.as_str())?,
         bookings: fs::read(rt, bookings.as_str())?,
+        script: fs::read(rt, script.as_str())?,
     };
     match rest {
         [] => {
             let tables = tables_of(rt.alloc(), &hotel, &texts)?;
+            let script = read_script(rt.alloc(), &hotel, tables.stays.codes(), &texts.script)?;
             print_hotel(rt, &hotel)?;
             print_tables(rt, &tables)?;
+            print_script(rt, &script)?;
         }
         [times, ..] => {
             let Ok(times) = times.parse::<u32>() else {
@@ -208,7 +223,7 @@ read_bookings-requires c =
     record { of_hotel = (forecast_file-tells c.in_ok-stays.stays c.read_forecast.new.stays _ list c.in_ok-read_forecast.ensures.read).1 ∙ nights }
 ANTT
 
-if ! (cd "$crate" && rt run -- data/hotel.toml data/stays.csv data/forecast.csv data/bookings.csv) > "$work/log" 2>&1; then
+if ! (cd "$crate" && rt run -- data/hotel.toml data/stays.csv data/forecast.csv data/bookings.csv data/script.csv) > "$work/log" 2>&1; then
     tail -n 20 "$work/log"
     echo "the program was not proved or built"
     exit 1

@@ -11,14 +11,10 @@ times the texts and 8 MiB.
 import os
 import subprocess
 import sys
-import time
 
 from generate import generate, problem_text, words
+from program import FOLDER, build, peak, program, timed
 
-HERE = os.path.dirname(os.path.abspath(__file__))
-TOP = os.path.dirname(HERE)
-FOLDER = os.path.join(TOP, "out", "bench")
-PROGRAM = os.environ.get("BIDPRICE", os.path.join(TOP, "crates", "bidprice", "out", "bidprice"))
 SIZES = [500, 1000, 2000, 4000]
 RUNS = 40
 
@@ -52,28 +48,9 @@ def solved(rooms, rows, name):
     return sell, prices
 
 
-def build(name):
-    """Builds one of the C programs beside this script."""
-    program = os.path.join(FOLDER, name)
-    subprocess.run(["gcc", "-O2", "-o", program, os.path.join(HERE, name + ".c")], check=True)
-    return program
-
-
-def once(command):
-    """Milliseconds of one run."""
-    said = [(os.POSIX_SPAWN_OPEN, 1, os.path.join(FOLDER, "said"), os.O_WRONLY | os.O_CREAT | os.O_TRUNC, 0o644)]
-    begin = time.perf_counter()
-    child = os.posix_spawn(command[0], command, os.environ, file_actions=said)
-    _, status = os.waitpid(child, 0)
-    taken = (time.perf_counter() - begin) * 1000
-    if status != 0:
-        sys.exit(f"{command[0]} failed")
-    return taken
-
-
 def main():
     os.makedirs(FOLDER, exist_ok=True)
-    adder, peak_of = build("bytes"), build("peak")
+    ours, adder, said = program(), build("bytes"), os.path.join(FOLDER, "said")
     print(f"{'stays':>6}{'bytes':>9}{'check':>10}{'bytes.c':>10}{'ratio':>8}{'peak KiB':>10}  said")
     for stays in SIZES:
         rooms, rows = generate(7, 400, 30, stays)
@@ -85,16 +62,17 @@ def main():
             out.write(certificate_text(sum(row[2] * sold for row, sold in zip(rows, sell)), sell, prices))
         check, adding = [], []
         for _ in range(RUNS):
-            adding.append(once([adder, problem, certificate]))
-            check.append(once([PROGRAM, "check", problem, certificate]))
-        peak = int(subprocess.run([peak_of, PROGRAM, "check", problem, certificate], capture_output=True, check=True).stderr)
+            adding.append(1000 * timed([adder, problem, certificate], said)[0])
+            check.append(1000 * timed([ours, "check", problem, certificate], said)[0])
+        most = peak([ours, "check", problem, certificate])
         size = os.path.getsize(problem) + os.path.getsize(certificate)
         ratio = min(check) / min(adding)
-        said = open(os.path.join(FOLDER, "said")).read().strip()
-        print(f"{stays:>6}{size:>9}{min(check):>8.2f}ms{min(adding):>8.2f}ms{ratio:>8.2f}{peak:>10}  {said}")
+        with open(said) as answered:
+            answer = answered.read().strip()
+        print(f"{stays:>6}{size:>9}{min(check):>8.2f}ms{min(adding):>8.2f}ms{ratio:>8.2f}{most:>10}  {answer}")
     if ratio > 3:
         sys.exit("check takes more than three times as long")
-    if peak * 1024 > 4 * size + 8 * 1024 * 1024:
+    if most * 1024 > 4 * size + 8 * 1024 * 1024:
         sys.exit("check takes too much memory")
 
 

@@ -10,6 +10,6 @@ copy_crates() {
     for name in "$@"; do
         cp -r "$top/crates/$name" "$folder/crates/"
         rm -rf "$folder/crates/$name/out" "$folder/crates/$name/must-fail"
-        grep "^$name:" "$top/crates.txt" >> "$folder/crates.txt"
+        grep "^$name[: ]" "$top/crates.txt" >> "$folder/crates.txt"
     done
 }

@@ -1,7 +1,7 @@
 #!/usr/bin/env bash
 # Refuses the readers of a hotel's files each of their allocations in turn. It wants rt and gcc.
 #
-# A small program reads the four files of examples/lindenhof, and files that are refused. With one allocation refused it
+# A small program reads the five files of examples/lindenhof, and files that are refused. With one allocation refused it
 # must end with status 6 and print nothing, or with its own status and its own whole answer.
 set -u
 here="$(cd "$(dirname "${BASH_SOURCE[0]}")" && pwd)"
@@ -37,14 +37,17 @@ hotel="$files/hotel.toml"
 stays="$files/stays.csv"
 forecast="$files/forecast.csv"
 bookings="$files/bookings.csv"
+script="$files/script.csv"
 { cat "$hotel"; printf '\n[[night]]\ndate = "2025-07-16"\nrooms = 1\n'; } > "$work/hotel.toml"
 { cat "$stays"; printf 'JUL01-1,2025-07-02,1,8900,\n'; } > "$work/stays.csv"
 { cat "$forecast"; printf 'JUL99-1,3\n'; } > "$work/forecast.csv"
 { cat "$bookings"; printf 'JUL14-2,25\n'; } > "$work/bookings.csv"
+{ cat "$script"; printf '33,book,JUL14-2,,,\n'; } > "$work/script.csv"
 
-refuse_each "$hotel" "$stays" "$forecast" "$bookings"
-refuse_each "$hotel" "$files/stays-from-a-spreadsheet.csv" "$forecast" "$bookings"
-refuse_each "$work/hotel.toml" "$stays" "$forecast" "$bookings"
-refuse_each "$hotel" "$work/stays.csv" "$forecast" "$bookings"
-refuse_each "$hotel" "$stays" "$work/forecast.csv" "$bookings"
-refuse_each "$hotel" "$stays" "$forecast" "$work/bookings.csv"
+refuse_each "$hotel" "$stays" "$forecast" "$bookings" "$script"
+refuse_each "$hotel" "$files/stays-from-a-spreadsheet.csv" "$forecast" "$bookings" "$script"
+refuse_each "$work/hotel.toml" "$stays" "$forecast" "$bookings" "$script"
+refuse_each "$hotel" "$work/stays.csv" "$forecast" "$bookings" "$script"
+refuse_each "$hotel" "$stays" "$work/forecast.csv" "$bookings" "$script"
+refuse_each "$hotel" "$stays" "$forecast" "$work/bookings.csv" "$script"
+refuse_each "$hotel" "$stays" "$forecast" "$bookings" "$work/script.csv"

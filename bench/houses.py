@@ -17,6 +17,7 @@ class House:
         self.draw = random.Random(seed)
         self.nights, self.rooms, self.unit = nights, rooms, unit
         self.stale_after, self.publications, self.groups = stale_after, publications, groups
+        self.lead = (stale_after + 1) // 2
         self.stays = []
         for _ in range(stays):
             start = self.draw.randrange(nights)
@@ -78,3 +79,27 @@ class House:
                 booked[session] += command.startswith("book")
                 lines.append(f"{session + 1},{command}")
         return "\n".join(lines) + "\n"
+
+    def numbers(self, script):
+        """The house and a script as numbers, as the desk in C++ beside these scripts reads them."""
+        sessions = {}
+        for line in script.splitlines()[1:]:
+            session, command = line.split(",", 1)
+            sessions.setdefault(int(session), []).append(self.act(command.split(",")))
+        lines = [f"{self.nights} {len(self.stays)} {self.unit} 200000 {self.publications} {self.stale_after}"]
+        lines.append(" ".join([str(self.rooms)] * self.nights))
+        lines += [f"{start} {start + length} {rate} {forecast}" for start, length, rate, forecast in self.stays]
+        lines.append(str(len(sessions)))
+        for session in sorted(sessions):
+            lines += [str(len(sessions[session])), *sessions[session]]
+        return "\n".join(lines) + "\n"
+
+    def act(self, words):
+        """A command as its verb's number, an item, the first night and the one after the last, and two numbers."""
+        verb, item, nights, rooms, amount = words
+        if verb == "cancel":
+            return f"1 0 0 0 {item} 0"
+        if verb in ("resize", "group"):
+            night = (datetime.date.fromisoformat(item) - FIRST).days
+            return f"4 {night} 0 0 {rooms} 0" if verb == "resize" else f"5 0 {night} {night + int(nights)} {rooms} {amount}"
+        return f"{('book', '', 'reforecast', 'reprice').index(verb)} {int(item[1:])} 0 0 {amount or 0} 0"

@@ -1,19 +1,23 @@
 #!/usr/bin/env python3
 """Times `bidprice replay` beside a C program that only reads the journal and adds up its bytes, and beside `check`.
 
-    bench/journal.py
+    bench/journal.py [COMMANDS..]
 
 It wants gcc, the program, and Python's standard library. The journals are those of runs on a year of 365 nights and
-3,000 stays, with 25,000 to 200,000 commands, no group among them, and a thousand vectors at most; the last is of
-11,000 commands, a thousand groups among them, and is timed beside a whole `bidprice group`. It fails where the longest
-takes more than five times the C program and a thousand times a whole `check` of that size, or more memory than the
-file, the book and 64 MiB, or the one with groups more than a thousand times `group`.
+3,000 stays, with 25,000 to 200,000 commands, or as many as are given, no group among them, and a thousand vectors at
+most. It fails where the longest takes more than five times the C program and a thousand times a whole `check` of that
+size, or more memory than the file, the book and 64 MiB; or where the time grows faster than the commands, whose
+vectors are about as many in each journal.
+
+Then a journal of 11,000 commands, a thousand groups of one to ten rooms among them, is timed beside a whole `bidprice
+group`: it fails where replay takes more than a thousand times that. The last one, of a hundred groups of 5,000 rooms
+that are counted in hundredths, is told beside and fails nothing.
 """
 import datetime
 import os
 import sys
 
-from houses import House
+from houses import House, date
 from program import FOLDER, build, peak, program, timed
 
 SIZES = [25_000, 50_000, 100_000, 200_000]
@@ -21,9 +25,23 @@ SESSIONS = 4
 BOOK = 64 * 2**20  # bytes that a book of the greatest limits takes, with its house
 
 
-def made(commands, groups=0.0):
-    """The files and the journal of a run with so many commands."""
-    house = House(commands, nights=365, rooms=120, stays=3000, stale_after=max(20, commands // 480), groups=groups)
+class Blocks(House):
+    """A house of 10,000 rooms, counted in hundredths, where all ask for 5,000 of them."""
+
+    def __init__(self, seed):
+        super().__init__(seed, nights=365, rooms=10_000, stays=3000, unit=100, groups=1.0)
+
+    def group(self):
+        return f"group,{date(self.draw.randrange(self.nights))},1,5000,{self.draw.randrange(400_000)}"
+
+
+def year(commands, groups=0.0):
+    """A house of 120 rooms a night, with about as many vectors whatever its commands."""
+    return House(commands, nights=365, rooms=120, stays=3000, stale_after=max(20, commands // 480), groups=groups)
+
+
+def made(house, commands):
+    """The files and the journal of a run with so many commands at a house."""
     folder = os.path.join(FOLDER, f"journal-{commands}")
     files = house.write(folder)
     script, journal = os.path.join(folder, "script.csv"), os.path.join(folder, "journal")
@@ -52,31 +70,53 @@ def one_check(files, journal):
     return min(timed([program(), "check", problem, certificate])[0] for _ in range(9)), problem
 
 
-def main():
+def replayed(files, journal):
+    """Seconds of the fastest of three replays."""
+    return min(timed([program(), "replay", *files, journal])[0] for _ in range(3))
+
+
+def lines_with(journal, word):
+    """How many lines of the journal have the word."""
+    with open(journal) as text:
+        return sum(word in line for line in text)
+
+
+def years(sizes):
+    """Times the journals of so many commands each, and gives a problem of their size."""
     adder = build("bytes")
     print(f"{'commands':>9}{'vectors':>9}{'bytes':>10}{'replay':>10}{'adding':>10}{'check':>10}{'peak KiB':>10}")
-    for commands in SIZES:
-        files, journal = made(commands)
-        replay = min(timed([program(), "replay", *files, journal])[0] for _ in range(3))
+    times = []
+    for commands in sizes:
+        files, journal = made(year(commands), commands)
+        times.append(replayed(files, journal))
         adding = min(timed([adder, journal])[0] for _ in range(9))
         check, problem = one_check(files, journal)
         memory = peak([program(), "replay", *files, journal])
-        with open(journal) as text:
-            vectors = sum(line.startswith("value") for line in text)
         size = os.path.getsize(journal)
-        print(f"{commands:>9}{vectors:>9}{size:>10}{replay:>9.3f}s{adding:>9.4f}s{check:>9.4f}s{memory:>10}")
-    if replay > 5 * adding + 1000 * check:
+        vectors = lines_with(journal, "value")
+        print(f"{commands:>9}{vectors:>9}{size:>10}{times[-1]:>9.3f}s{adding:>9.4f}s{check:>9.4f}s{memory:>10}")
+    if times[-1] > 5 * adding + 1000 * check:
         sys.exit("replay takes too long")
-    files, journal = made(11_000, 1 / 11)
-    replay = min(timed([program(), "replay", *files, journal])[0] for _ in range(3))
+    if times[-1] / times[0] > 1.25 * sizes[-1] / sizes[0]:
+        sys.exit("replay grows faster than the commands")
+    if memory * 1024 > size + BOOK + 64 * 2**20:
+        sys.exit("replay takes too much memory")
+    return problem
+
+
+def main():
+    problem = years([int(size) for size in sys.argv[1:]] or SIZES)
+    files, journal = made(year(11_000, 1 / 11), 11_000)
+    replay = replayed(files, journal)
     quote = min(timed([program(), "group", problem, "100", "103", "5"])[0] for _ in range(9))
-    with open(journal) as text:
-        groups = sum(" group " in line for line in text)
+    groups = lines_with(journal, " group ")
     print(f"{groups} groups among 11,000 commands: replay {replay:.3f} s, one whole group {quote:.4f} s")
     if replay > 1000 * quote:
         sys.exit("replay of groups takes too long")
-    if memory * 1024 > size + BOOK + 64 * 2**20:
-        sys.exit("replay takes too much memory")
+    files, journal = made(Blocks(100), 100)
+    replay = replayed(files, journal)
+    groups = lines_with(journal, " group ")
+    print(f"{groups} groups of 5,000 rooms in hundredths: replay {replay:.3f} s")
 
 
 if __name__ == "__main__":

@@ -1,5 +1,6 @@
 """Where the program is, and how the scripts of this folder run it and the small C programs beside them."""
 import os
+import shutil
 import subprocess
 import sys
 import time
@@ -22,6 +23,24 @@ def build(name):
     os.makedirs(FOLDER, exist_ok=True)
     made = os.path.join(FOLDER, name)
     subprocess.run(["gcc", "-O2", "-o", made, os.path.join(HERE, name + ".c")], check=True)
+    return made
+
+
+def build_library(name):
+    """Builds one of the C files beside this script as a library to load before a program."""
+    os.makedirs(FOLDER, exist_ok=True)
+    made = os.path.join(FOLDER, name + ".so")
+    subprocess.run(["gcc", "-O2", "-shared", "-fPIC", "-o", made, os.path.join(HERE, name + ".c"), "-ldl"], check=True)
+    return made
+
+
+def build_beside_lemon(name):
+    """Builds one of the C++ programs beside this script, or gives None where LEMON or a compiler is missing."""
+    if not shutil.which("g++") or not os.path.exists("/usr/include/lemon/network_simplex.h"):
+        return None
+    os.makedirs(FOLDER, exist_ok=True)
+    made = os.path.join(FOLDER, name)
+    subprocess.run(["g++", "-O2", "-std=c++17", "-pthread", "-w", "-o", made, os.path.join(HERE, name + ".cpp")], check=True)
     return made
 
 

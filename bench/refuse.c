@@ -1,22 +1,24 @@
-/* A library to load before a program, by LD_PRELOAD. It refuses one of the program's calls of malloc and realloc, the
-   one whose number, from 1, is the word REFUSE of the environment, and says so on standard error. */
+/* A library to load before a program, by LD_PRELOAD. It refuses the program's calls of malloc and realloc: the
+   one whose number, from 1, is the word REFUSE of the environment, or where REFUSE_ALL is set, that and all later ones.
+   It says so on standard error, once. */
 #define _GNU_SOURCE
 #include <dlfcn.h>
 #include <stdlib.h>
 #include <unistd.h>
 
-static long left = -1;
-
 static int refuses(void)
 {
     static const char said[] = "an allocation was refused\n";
-    if (left < 0) {
+    static long nth, wanted;
+    static int all;
+    if (nth++ == 0) {
         const char *word = getenv("REFUSE");
-        left = word ? atol(word) : 0;
+        wanted = word ? atol(word) : 0;
+        all = getenv("REFUSE_ALL") != NULL;
     }
-    if (left == 0 || --left > 0)
+    if (wanted == 0 || nth < wanted || (nth > wanted && !all))
         return 0;
-    return write(2, said, sizeof said - 1) >= 0;
+    return nth > wanted || write(2, said, sizeof said - 1) >= 0;
 }
 
 void *malloc(size_t size)

@@ -94,6 +94,38 @@ prices 60 40 40
 end
 """
 
+# The report of that run.
+REPORT = b"""night date        rooms   sold   left       price
+    0 2025-07-01      2      1      1          60
+    1 2025-07-02      1      1      0          40
+    2 2025-07-03      2      1      1          40
+stay              asked accepted toolow noroom cancelled forecast
+P0                    1        1      0      0         0        2
+P1                    1        0      0      1         0        0
+P2                    0        0      0      0         0        1
+P3                    1        1      0      0         0        4
+value 100
+"""
+
+# The sheet of the problem.
+SHEET = b"""night 0 price 0 gain 0 loss 0
+night 1 price 100 gain 100 loss 110
+night 2 price 40 gain 40 loss 40
+arrival 0 least 1 hurdles 0 100 140
+arrival 1 least 2 hurdles 100 140
+arrival 2 least 1 hurdles 40
+"""
+
+# The demo of a hotel with one stay, whose rate is the price of its only room.
+DEMO = b"""demo 0 1 1 1
+value 5073
+prices 5073
+accepted 1
+toolow 0
+noroom 0
+closing 0
+"""
+
 # And where the house allows one vector.
 CUT_RUN = b"""journal 2
 0 0 publish 0 vector 0
@@ -104,6 +136,22 @@ prices 0 100 40
 2 1 book 0 accepted 0 100
 3 1 book 1 noroom 0 140 1
 4 1 leave done
+end
+"""
+
+# Four scenarios of the problem, and what is answered.
+CHANGES = (EXAMPLE / "changes").read_bytes()
+
+FORESEEN = b"""scenario 1 value 250 prices 0 100 40
+scenario 2 value 140 prices 0 110 40
+scenario 3 refused 1
+scenario 4 value 340 prices 60 140 40
+"""
+
+LIST = b"""portfolio 1
+hotels 2
+one-vector stays forecast bookings script
+stale-hotel stays forecast bookings script
 end
 """
 
@@ -135,7 +183,11 @@ FILES = {
     "script": SCRIPT,
     "session-33": SCRIPT.replace(b"1,book,P0", b"33,book,P0"),
     "run": RUN,
+    "list": LIST,
+    "nine": b"portfolio 1\nhotels 9\n",
     "overbooked": b"code,count\nP0,1\nP1,1\n",
+    "changes": CHANGES,
+    "no-stay": b"scenarios 1\nscenario\ndemand 4 1\nend\n",
     "long": b"p" * (2**24 + 1),
     "greatest": b"p" * 2**24,
 }
@@ -165,11 +217,26 @@ LINES = [
     (["desk", *STALE, "script", "--workers", "0"], 0, RUN),
     (["replay", *STALE, "run"], 0, b"legal 8\n"),
     (["desk", *ONE_VECTOR, "script", "--workers", "0"], 7, CUT_RUN),
+    (["portfolio", "list", "--workers", "0"], 7, b"hotel 1 7\n" + CUT_RUN + b"hotel 2 0\n" + RUN),
+    (["portfolio", "nine"], 3, b"refused 1 limit 2\n"),
+    (["report", *STALE, "run"], 0, REPORT),
+    (["report", *REPLAY[1:], "other-reply"], 1, b"illegal 2 reply\n"),
+    (["sheet", "problem"], 0, SHEET),
+    (["demo", "0", "1", "1", "1"], 0, DEMO),
+    (["demo", "000", "01", "1", "1"], 0, DEMO),
+    (["scenarios", "problem", "changes"], 0, FORESEEN),
+    (["scenarios", "problem", "no-stay"], 3, b"refused 2 limit 3\n"),
+    (["scenarios", "problem", "absent"], 4, b"fault 2\n"),
+    (["scenarios", "problem"], 2, USAGE),
     ([], 2, USAGE),
     (["help"], 2, USAGE),
     (["check", "problem"], 2, USAGE),
     (["check", "problem", "-certificate"], 2, USAGE),
     (["solve"], 2, USAGE),
+    (["sheet"], 2, USAGE),
+    (["demo", "0", "401", "1", "1"], 2, USAGE),
+    (["demo", "0", "0", "1", "1"], 2, USAGE),
+    (["report", *STALE], 2, USAGE),
     (["group", "problem", "0", "2", "0"], 2, USAGE),
     (["desk", *STALE], 2, USAGE),
     (["desk", *STALE, "script", "--workers=2"], 2, USAGE),
@@ -189,6 +256,10 @@ LINES = [
     (["judge", "problem", "zero-in-journal"], 3, b"refused 2 badline 7\n"),
     (["replay", "hotel", "stays", "forecast", "overbooked", "journal"], 3, b"refused 4 overbooked 1\n"),
     ([*REPLAY, "absent"], 4, b"fault 5\n"),
+    (["report", *STALE, "absent"], 4, b"fault 5\n"),
+    (["report", "hotel", "stays", "forecast", "overbooked", "journal"], 3, b"refused 4 overbooked 1\n"),
+    (["sheet", "many-nights"], 3, b"refused 1 limit 2\n"),
+    (["sheet", "absent"], 4, b"fault 1\n"),
     (["check", "absent", "certificate"], 4, b"fault 1\n"),
     (["check", "problem", "absent"], 4, b"fault 2\n"),
     (["check", "folder", "certificate"], 4, b"fault 1\n"),
@@ -207,7 +278,7 @@ CHOSEN = [
 ]
 
 # One line of words for each command, and one that no command has: each writes something.
-WRITING = [BOTH, ["solve", "problem"], ["group", "problem", "0", "2", "1"], ["judge", "problem", "journal"], [*REPLAY, "journal"], ["desk", *STALE, "script"], ["help"]]
+WRITING = [BOTH, ["solve", "problem"], ["group", "problem", "0", "2", "1"], ["judge", "problem", "journal"], [*REPLAY, "journal"], ["desk", *STALE, "script"], ["report", *STALE, "run"], ["sheet", "problem"], ["demo", "0", "1", "1", "1"], ["scenarios", "problem", "changes"], ["portfolio", "list"], ["help"]]
 
 
 def run(program, folder, words, **how):

@@ -1,15 +1,15 @@
 #!/usr/bin/env python3
 """Gives the program, compiled with checks on every access and every sum, damaged files and failing calls.
 
-    bench/checked.py [TIMES [SEED]]
+    bench/checked.py [TIMES [SEED [COMMAND..]]]
 
 It wants rt and Python's standard library. `rt try` compiles the program from its sources with an address sanitizer and
 with traps at what no proof has been asked about: an index out of range, a sum that overflows, a cast that loses bits. It
 runs TIMES (200) damaged inputs of each command that reads files, made as those of bench/damage.py from small texts; each
-has to end by itself with a status from 0 to 7. Then, for each command, every allocation fails in turn, and each read and
-write fails in turn and is cut short in turn; the kit tells each run that faults, hangs, or ends with its status and
-another text. Prints what the kit counts, and ends with status 1 where a run does not end so. The build takes some
-minutes, once for the damaged inputs and once for each kind of failing call of each command.
+has to end by itself with a status from 0 to 7. Then, for each COMMAND that is named, every allocation fails in turn, and
+each read and write fails in turn and is cut short in turn; the kit tells each run that faults, hangs, or ends with its
+status and another text. Prints what the kit counts, and ends with status 1 where a run does not end so. The build takes
+some minutes, once for the damaged inputs and three times for each COMMAND.
 """
 import os
 import random
@@ -92,7 +92,8 @@ def main():
     print(f"damaged inputs: {said[-1] if said else 'nothing was said'}")
     wrong = len(ends) + (status != 0)
     print("\n".join(ends[:20]), end="\n" if ends else "")
-    for command, line in LINES.items():
+    for command in sys.argv[3:]:
+        line = LINES[command]
         for flag in ("--fail-alloc", "--fail-io", "--short-io"):
             log = os.path.join(here, f"{command}{flag}.log")
             status, said = tried([flag, "1..", *data_flags(here), "--", *line], log)

@@ -81,7 +81,7 @@ def is_legal(found, files, journal):
     if found[0] not in (0, 6, 7):
         return False
     text = whole_entries(found[1])
-    if found[0] != 6 and text != found[1] or found[0] == 6 and not (found[1] or b"j").startswith(b"journal 2"[: len(found[1]) or 1]):
+    if found[0] != 6 and text != found[1] or not b"journal 2\n".startswith(found[1][:10]):
         return False
     with open(journal, "wb") as out:
         out.write(text or b"")

@@ -7,6 +7,7 @@ use lib.ListN.{get_elem?}
 use Rattle.std.specs.List.{All}
 use Rattle.std.proofs.lemmas.List.Elements.{All-weaker}
 use Rattle.atomic_table.specs.Table.{State, keeps, step, stepped, Allows}
+use Rattle.bp_types.specs.declared.limits.TheConstants.{CALLERS}
 use Rattle.bp_turn.specs.declared.table.View.{View}
 use Rattle.bp_turn.specs.Rule.{hands_out, Past, Fits, IsFree, FollowsRule, IsOutOrHome, HasPart, There}
 use Rattle.bp_turn.specs.Plays.{Sat, Drew}
@@ -16,7 +17,7 @@ use Rattle.bp_turn.proofs.Numbers.{but, but_here, but_else, count_on, wraps}
 use Rattle.bp_turn.proofs.Uniqueness.{apart, not_logged}
 
 module _ {B F E : Type 0} (fix : B → F) (story : B → List E) (caller : E → ℕ) (fixed : F) where
-  module _ (s : State (Option B) (View F E)) (r : FollowsRule fix story caller fixed s) (id : ℕ) (v : View F E) (at : get_elem? s.views id ≡ some v) (small : v.number < 64) (idle : v.has_ticket ≡ false) where
+  module _ (s : State (Option B) (View F E)) (r : FollowsRule fix story caller fixed s) (id : ℕ) (v : View F E) (at : get_elem? s.views id ≡ some v) (small : v.number < CALLERS) (idle : v.has_ticket ≡ false) where
     abbrev w : View F E
     w = view_with_ticket v r.past.drawn
 
@@ -70,7 +71,7 @@ module _ {B F E : Type 0} (fix : B → F) (story : B → List E) (caller : E →
     draw_keeps = record {
       past = drawn_past;
       words = ap (λ (ws : List ℕ). set ws 1 ((get_or ws 1 0 + 1) % 2 ^ 64)) r.words ∙ ap (λ (n : ℕ). length r.past.history ∷ n ∷ r.past.served % 2 ^ 64 ∷ []) (wraps r.past.drawn);
-      count = let c = r.count in let d = count_on 64 r.past.waits v.number small (((r.each id v at).own small).1 ∙ idle) in omega arith;
+      count = let c = r.count in let d = count_on CALLERS r.past.waits v.number small (((r.each id v at).own small).1 ∙ idle) in omega arith;
       whole = (r.whole.0, still_there (λ u. u.seen ≡ r.past.history) s.views id v w at (λ e. e) r.whole.0 r.whole.1);
       roles = λ n l. still_there (λ u. HasPart n (r.past.role n).1 u.number u.free u.ended) s.views id v w at (λ h. h) (r.past.role n).0 (r.roles n l);
       tickets = draw_tickets;
@@ -79,5 +80,5 @@ module _ {B F E : Type 0} (fix : B → F) (story : B → List E) (caller : E →
       value = draw_value;
     }
 
-  pub draws : (slots id : ℕ) (m : Sat B F E) → m.0.number < 64 → m.0.has_ticket ≡ false → Allows (FollowsRule fix story caller fixed) slots id m 1 (λ n. (n + 1) % 2 ^ 64) (Drew (step slots 1 1 0 none) m)
+  pub draws : (slots id : ℕ) (m : Sat B F E) → m.0.number < CALLERS → m.0.has_ticket ≡ false → Allows (FollowsRule fix story caller fixed) slots id m 1 (λ n. (n + 1) % 2 ^ 64) (Drew (step slots 1 1 0 none) m)
   draws slots id m small idle s r _ at _ = (view_with_ticket m.0 r.past.drawn, keeps, tt, draw_keeps s r id m.0 at small idle, (r.past.drawn, ap (λ (ws : List ℕ). get_or ws 1 0) r.words, refl))

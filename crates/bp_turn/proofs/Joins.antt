@@ -8,6 +8,7 @@ use Rattle.std.specs.List.{All}
 use Rattle.std.proofs.lemmas.List.Elements.{All-nil, All-weaker, All-append, All-cons, Contains-append_left, Contains-append_right}
 use Rattle.atomic_table.specs.Table.{State, keeps, step, Allows, Joins}
 use Rattle.atomic_table.proofs.Lists.{set_else}
+use Rattle.bp_types.specs.declared.limits.TheConstants.{CALLERS}
 use Rattle.bp_turn.specs.declared.table.View.{View}
 use Rattle.bp_turn.specs.Plays.{Sat, Learnt, IsNote}
 use Rattle.bp_turn.specs.Prefix.{longer}
@@ -91,12 +92,12 @@ module _ {B F E : Type 0} (fix : B → F) (story : B → List E) (caller : E →
     }
 
     -- a note has a part in no number
-    no_part : (n : ℕ) (part : Part) → n < 64 → HasPart n part w.number w.free w.ended → ⊥
+    no_part : (n : ℕ) (part : Part) → n < CALLERS → HasPart n part w.number w.free w.ended → ⊥
     no_part n logs l h = let m = told.0 in omega arith
     no_part n hands_out l h = let m = h.1 in let e = ap length told.1 in omega arith
     no_part n keeps_ended l h = let m = h.1.1 in let e = ap length told.2 in omega arith
 
-    told_roles : (n : ℕ) → n < 64 → There (set (set s.views id (view_told v w)) k spent_view) (r.past.role n).0 (λ u. HasPart n (r.past.role n).1 u.number u.free u.ended)
+    told_roles : (n : ℕ) → n < CALLERS → There (set (set s.views id (view_told v w)) k spent_view) (r.past.role n).0 (λ u. HasPart n (r.past.role n).1 u.number u.free u.ended)
     told_roles n l = let Has : View F E → Type 0 = λ u. HasPart n (r.past.role n).1 u.number u.free u.ended in dite (ℕ_discrete (r.past.role n).0 k)
         (λ e. absurd (no_part n (r.past.role n).1 l (at_k s r id k v w (view_told v w) at ne there idle told.4 told.3 Has (r.past.role n).0 e (r.roles n l))))
         (λ other. elsewhere s r id k v w (view_told v w) at ne there idle told.4 told.3 Has (r.past.role n).0 other (λ h. h) (r.roles n l))
@@ -122,7 +123,7 @@ module _ {B F E : Type 0} (fix : B → F) (story : B → List E) (caller : E →
 
   -- the seat k, which has a number, ends in the seat id
   module _ (s : State (Option B) (View F E)) (r : FollowsRule fix story caller fixed s) (id k : ℕ) (v w : View F E) (at : get_elem? s.views id ≡ some v) (ne : k ≢ id) (there : get_elem? s.views k ≡ some w)
-      (idle : v.has_turn ≡ false) (off : w.has_turn ≡ false) (unserved : w.has_ticket ≡ false) (small : w.number < 64) where
+      (idle : v.has_turn ≡ false) (off : w.has_turn ≡ false) (unserved : w.has_ticket ≡ false) (small : w.number < CALLERS) where
     abbrev x : View F E
     x = view_joined v w
 
@@ -192,7 +193,7 @@ module _ {B F E : Type 0} (fix : B → F) (story : B → List E) (caller : E →
     gets_part n hands_out h = Contains-append_right v.free w.free n h
     gets_part n keeps_ended h = (h.0, Contains-append_right v.ended ((w.number, w.own) ∷ w.ended) (n, h.0) (Contains-append_right ((w.number, w.own) ∷ []) w.ended (n, h.0) h.1))
 
-    join_roles : (n : ℕ) → n < 64 → There (set (set s.views id x) k spent_view) (join_past.role n).0 (λ u. HasPart n (join_past.role n).1 u.number u.free u.ended)
+    join_roles : (n : ℕ) → n < CALLERS → There (set (set s.views id x) k spent_view) (join_past.role n).0 (λ u. HasPart n (join_past.role n).1 u.number u.free u.ended)
     join_roles n l = let Has : View F E → Type 0 = λ u. HasPart n (r.past.role n).1 u.number u.free u.ended in dite (ℕ_discrete (r.past.role n).0 k)
         (λ e. subst (λ (y : ℕ × Part). There (set (set s.views id x) k spent_view) y.0 (λ u. HasPart n y.1 u.number u.free u.ended)) (sym (comes n (r.past.role n).1 (λ i. (e i, (r.past.role n).1))))
         (now_at_id s r id k v w x at ne there idle off unserved (λ u. HasPart n (joined_part (r.past.role n).1) u.number u.free u.ended) (gets_part n (r.past.role n).1 (at_k s r id k v w x at ne there idle off unserved Has (r.past.role n).0 e (r.roles n l)))))
@@ -215,7 +216,7 @@ module _ {B F E : Type 0} (fix : B → F) (story : B → List E) (caller : E →
   pub hears : (id : ℕ) (v : View F E) (k : ℕ) (w : View F E) → v.has_turn ≡ false → IsNote {B = B} (w, []) → Joins (FollowsRule fix story caller fixed) id v k w (view_told v w) spent_view
   hears id v k w idle told s r at ne there = told_keeps s r id k v w at ne (sym (set_else s.views id k (view_told v w) ne) ∙ there) idle told
 
-  pub absorbs : (id : ℕ) (v : View F E) (k : ℕ) (w : View F E) → v.has_turn ≡ false → w.has_turn ≡ false → w.has_ticket ≡ false → w.number < 64 → Joins (FollowsRule fix story caller fixed) id v k w (view_joined v w) spent_view
+  pub absorbs : (id : ℕ) (v : View F E) (k : ℕ) (w : View F E) → v.has_turn ≡ false → w.has_turn ≡ false → w.has_ticket ≡ false → w.number < CALLERS → Joins (FollowsRule fix story caller fixed) id v k w (view_joined v w) spent_view
   absorbs id v k w idle off unserved small s r at ne there = join_keeps s r id k v w at ne (sym (set_else s.views id k (view_joined v w) ne) ∙ there) idle off unserved small
 
   pub learns : (slots id : ℕ) (m : Sat B F E) → Allows (FollowsRule fix story caller fixed) slots id m 0 (λ n. n) (Learnt fix story caller (step slots 0 0 0 none) m)
@@ -231,8 +232,8 @@ module _ {F E : Type 0} (caller : E → ℕ) where
   turns_within : (v : View F E) (ys : List E) → IsSoundView caller v → All (λ t. t ≤ length (longer v.seen ys)) v.turns
   turns_within v ys z = let m = longer_ge v.seen ys in All-weaker (λ t. t ≤ length v.seen) (λ t. t ≤ length (longer v.seen ys)) (λ t l. omega arith) v.turns z.turn_lengths
 
-  pub told_sound : (v w : View F E) → (v.number < 64 → (f : F) × (v.fixed ≡ Some f) → All (λ t. t ≤ length (longer v.seen w.seen)) v.turns → IsSoundView caller (view_told v w)) → IsSoundView caller v → IsSoundView caller (view_told v w)
-  told_sound v w h z = h z.below_64 z.fixed_part (turns_within v w.seen z)
+  pub told_sound : (v w : View F E) → (v.number < CALLERS → (f : F) × (v.fixed ≡ Some f) → All (λ t. t ≤ length (longer v.seen w.seen)) v.turns → IsSoundView caller (view_told v w)) → IsSoundView caller v → IsSoundView caller (view_told v w)
+  told_sound v w h z = h z.numbered z.fixed_part (turns_within v w.seen z)
 
-  pub joined_sound : (v w : View F E) → (v.number < 64 → (f : F) × (v.fixed ≡ Some f) → All (λ t. t ≤ length (longer v.seen w.seen)) v.turns → IsSoundView caller (view_joined v w)) → IsSoundView caller v → IsSoundView caller (view_joined v w)
-  joined_sound v w h z = h z.below_64 z.fixed_part (turns_within v w.seen z)
+  pub joined_sound : (v w : View F E) → (v.number < CALLERS → (f : F) × (v.fixed ≡ Some f) → All (λ t. t ≤ length (longer v.seen w.seen)) v.turns → IsSoundView caller (view_joined v w)) → IsSoundView caller v → IsSoundView caller (view_joined v w)
+  joined_sound v w h z = h z.numbered z.fixed_part (turns_within v w.seen z)

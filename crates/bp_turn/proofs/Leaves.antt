@@ -6,6 +6,7 @@ use lib.ListN.{get_elem?}
 use Rattle.std.specs.List.{All}
 use Rattle.std.proofs.lemmas.List.Elements.{All-weaker}
 use Rattle.atomic_table.specs.Table.{State, gives, step, stepped, Allows}
+use Rattle.bp_types.specs.declared.limits.TheConstants.{CALLERS}
 use Rattle.bp_turn.specs.declared.table.View.{View}
 use Rattle.bp_turn.specs.Plays.{Sat, Gave}
 use Rattle.bp_turn.specs.Rule.{hands_out, Past, Fits, IsFree, FollowsRule, HasPart}
@@ -15,7 +16,7 @@ use Rattle.bp_turn.proofs.Numbers.{but, but_here, but_else, count_off, wraps}
 use Rattle.bp_turn.proofs.Uniqueness.{apart, not_logged, one_holder, no_other_turn}
 
 module _ {B F E : Type 0} (fix : B → F) (story : B → List E) (caller : E → ℕ) (fixed : F) where
-  module _ (s : State (Option B) (View F E)) (r : FollowsRule fix story caller fixed s) (id : ℕ) (v : View F E) (at : get_elem? s.views id ≡ some v) (small : v.number < 64) (on : v.has_turn ≡ true) where
+  module _ (s : State (Option B) (View F E)) (r : FollowsRule fix story caller fixed s) (id : ℕ) (v : View F E) (at : get_elem? s.views id ≡ some v) (small : v.number < CALLERS) (on : v.has_turn ≡ true) where
     abbrev w : View F E
     w = view_after_turn v
 
@@ -58,7 +59,7 @@ module _ {B F E : Type 0} (fix : B → F) (story : B → List E) (caller : E →
     leave_keeps b is locked = let t = (r.each id v at).turn on in let served = t.1 in record {
       past = left_past;
       words = ap (λ (ws : List ℕ). set ws 2 ((get_or ws 2 0 + 1) % 2 ^ 64)) r.words ∙ ap (λ (n : ℕ). length r.past.history ∷ r.past.drawn % 2 ^ 64 ∷ n ∷ []) (wraps r.past.served);
-      count = let c = r.count in let d = count_off 64 r.past.waits v.number small (((r.each id v at).own small).1 ∙ t.0) in omega arith;
+      count = let c = r.count in let d = count_off CALLERS r.past.waits v.number small (((r.each id v at).own small).1 ∙ t.0) in omega arith;
       whole = (r.whole.0, still_there (λ u. u.seen ≡ r.past.history) s.views id v w at (λ e. e) r.whole.0 r.whole.1);
       roles = λ n l. still_there (λ u. HasPart n (r.past.role n).1 u.number u.free u.ended) s.views id v w at (λ h. h) (r.past.role n).0 (r.roles n l);
       tickets = λ n a c. still_there (λ u. (u.has_ticket ≡ true) × (u.ticket ≡ n)) s.views id v w at (λ h. absurd (let i = h.1 in omega arith)) (r.past.drawer n) (r.tickets n (omega arith) c);
@@ -67,7 +68,7 @@ module _ {B F E : Type 0} (fix : B → F) (story : B → List E) (caller : E →
       value = inr (b, ap (λ (hs : List (maybe.Option (Option B))). set hs 0 (some (Some b))) is_out, is ∙ t.2, locked, one_set (λ _ u. u.has_turn ≡ false) s.views id w refl (no_other_turn fix story caller fixed s r id v at on));
     }
 
-  pub leaves : (slots id : ℕ) (m : Sat B F E) (b : B) → m.1 ≡ (0, Some b) ∷ [] → m.0.number < 64 → m.0.has_turn ≡ true → story b ≡ m.0.seen → m.0.fixed ≡ Some (fix b)
+  pub leaves : (slots id : ℕ) (m : Sat B F E) (b : B) → m.1 ≡ (0, Some b) ∷ [] → m.0.number < CALLERS → m.0.has_turn ≡ true → story b ≡ m.0.seen → m.0.fixed ≡ Some (fix b)
       → Allows (FollowsRule fix story caller fixed) slots id m 2 (λ n. (n + 1) % 2 ^ 64) (Gave (step slots 2 1 0 none) m)
   leaves slots id m b out small on is lock = subst (λ (c : List (ℕ × Option B)). Allows (FollowsRule fix story caller fixed) slots id (m.0, c) 2 (λ n. (n + 1) % 2 ^ 64) (Gave (step slots 2 1 0 none) (m.0, c))) (sym out)
       (λ s r _ at _. (view_after_turn m.0, gives, tt, leave_keeps s r id m.0 at small on b is ((r.each id m.0 at).lock (fix b) lock), refl))

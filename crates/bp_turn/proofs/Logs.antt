@@ -5,6 +5,7 @@ use lib.ListN.{get_elem?}
 use Rattle.std.specs.List.{All}
 use Rattle.std.proofs.lemmas.List.Elements.{All-weaker}
 use Rattle.atomic_table.specs.Table.{State, keeps, step, stepped, Allows}
+use Rattle.bp_types.specs.declared.limits.TheConstants.{CALLERS}
 use Rattle.bp_turn.specs.declared.table.View.{View}
 use Rattle.bp_turn.specs.Callers.{entries_by}
 use Rattle.bp_turn.specs.Plays.{Sat, Logged}
@@ -23,7 +24,7 @@ value_in d [] = d
 value_in d (x ∷ xs) = elim x.1 [ Some b ↦ b | None ↦ d ]
 
 module _ {B F E : Type 0} (fix : B → F) (story : B → List E) (caller : E → ℕ) (fixed : F) where
-  module _ (s : State (Option B) (View F E)) (r : FollowsRule fix story caller fixed s) (id : ℕ) (v : View F E) (at : get_elem? s.views id ≡ some v) (small : v.number < 64) (on : v.has_turn ≡ true)
+  module _ (s : State (Option B) (View F E)) (r : FollowsRule fix story caller fixed s) (id : ℕ) (v : View F E) (at : get_elem? s.views id ≡ some v) (small : v.number < CALLERS) (on : v.has_turn ≡ true)
       (e : E) (mine : caller e ≡ v.number) (fits : length (v.seen ++ e ∷ []) < 2 ^ 64) where
     abbrev w : View F E
     w = view_with_entry v e
@@ -71,7 +72,7 @@ module _ {B F E : Type 0} (fix : B → F) (story : B → List E) (caller : E →
       turn = λ _. (t.0, t.1, sees_all);
     }
 
-    log_others : (n : ℕ) → 64 ≤ n → entries_by caller n longer_history ≡ []
+    log_others : (n : ℕ) → CALLERS ≤ n → entries_by caller n longer_history ≡ []
     log_others n l = no_more caller n r.past.history e (λ i. omega arith) ∙ r.others n l
 
     log_length : (length r.past.history + 1) % 2 ^ 64 ≡ length longer_history
@@ -94,7 +95,7 @@ module _ {B F E : Type 0} (fix : B → F) (story : B → List E) (caller : E →
     log_sound z = let m = length-append v.seen (e ∷ []) in
         sound_of caller fixed log_past id w log_own log_others small z.fixed_part (All-weaker (λ t. t ≤ length v.seen) (λ t. t ≤ length w.seen) (λ t l. omega arith) v.turns z.turn_lengths)
 
-  pub logs_entry : (slots id : ℕ) (m : Sat B F E) (b : B) (e : E) → m.1 ≡ (0, Some b) ∷ [] → m.0.number < 64 → m.0.has_turn ≡ true → story b ≡ m.0.seen ++ e ∷ [] → caller e ≡ m.0.number → length (m.0.seen ++ e ∷ []) < 2 ^ 64
+  pub logs_entry : (slots id : ℕ) (m : Sat B F E) (b : B) (e : E) → m.1 ≡ (0, Some b) ∷ [] → m.0.number < CALLERS → m.0.has_turn ≡ true → story b ≡ m.0.seen ++ e ∷ [] → caller e ≡ m.0.number → length (m.0.seen ++ e ∷ []) < 2 ^ 64
       → Allows (FollowsRule fix story caller fixed) slots id m 0 (λ n. (n + 1) % 2 ^ 64) (Logged fix story caller (step slots 0 1 0 none) m)
   logs_entry slots id m b e out small on is mine fits s r _ at _ = (
     view_with_entry m.0 e,

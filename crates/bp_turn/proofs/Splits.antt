@@ -8,6 +8,7 @@ use Rattle.std.specs.List.{All, Contains}
 use Rattle.std.proofs.lemmas.List.Elements.{All-nil, All-weaker, All-contains}
 use Rattle.atomic_table.specs.Table.{State, Splits}
 use Rattle.atomic_table.proofs.Lists.{at_last, set_again}
+use Rattle.bp_types.specs.declared.limits.TheConstants.{CALLERS}
 use Rattle.bp_turn.specs.declared.table.View.{View}
 use Rattle.bp_turn.specs.Callers.{entries_by, without}
 use Rattle.bp_turn.specs.Plays.{Sat}
@@ -94,7 +95,7 @@ module _ {B F E : Type 0} (fix : B → F) (story : B → List E) (caller : E →
     left_part n hands_out ne h = still_left v.chosen n v.free ne h
     left_part n keeps_ended ne h = h
 
-    split_roles : (n : ℕ) → n < 64 → There views (split_past.role n).0 (λ u. HasPart n (split_past.role n).1 u.number u.free u.ended)
+    split_roles : (n : ℕ) → n < CALLERS → There views (split_past.role n).0 (λ u. HasPart n (split_past.role n).1 u.number u.free u.ended)
     split_roles n l = dite (ℕ_discrete n v.chosen)
         (λ e. subst (λ (x : ℕ × Part). There views x.0 (λ u. HasPart n x.1 u.number u.free u.ended)) (sym (but_here r.past.role v.chosen (next, logs) n e))
         (right, at_last (set s.views id left) right next (length-set s.views id left), sym e))
@@ -155,9 +156,9 @@ module _ {B F E : Type 0} (fix : B → F) (story : B → List E) (caller : E →
   rests_less_choice m n h = let z = h.sound in record {
     sound = record {
       fixed_part = z.fixed_part;
-      below_64 = z.below_64;
+      numbered = z.numbered;
       own_entries = z.own_entries;
-      free_entries = All-weaker (λ k. (k ≢ n) × Contains m.0.free k) (λ k. (k < 64) × (entries_by caller k m.0.seen ≡ [])) (λ k o. All-contains (λ k. (k < 64) × (entries_by caller k m.0.seen ≡ [])) m.0.free k z.free_entries o.1) (without n m.0.free) (left_over n m.0.free);
+      free_entries = All-weaker (λ k. (k ≢ n) × Contains m.0.free k) (λ k. (k < CALLERS) × (entries_by caller k m.0.seen ≡ [])) (λ k o. All-contains (λ k. (k < CALLERS) × (entries_by caller k m.0.seen ≡ [])) m.0.free k z.free_entries o.1) (without n m.0.free) (left_over n m.0.free);
       ended_entries = z.ended_entries;
       other_entries = z.other_entries;
       turn_lengths = z.turn_lengths;
@@ -168,12 +169,12 @@ module _ {B F E : Type 0} (fix : B → F) (story : B → List E) (caller : E →
 
   -- the new seat between two calls
   pub rests_newcomer : (m : Sat B F E) (n : ℕ) → Contains m.0.free n → IsAtRest caller m → IsAtRest {B = B} caller (newcomer (view_with_choice m.0 n), [])
-  rests_newcomer m n mine h = let z = h.sound in let f = All-contains (λ k. (k < 64) × (entries_by caller k m.0.seen ≡ [])) m.0.free n z.free_entries mine in record {
+  rests_newcomer m n mine h = let z = h.sound in let f = All-contains (λ k. (k < CALLERS) × (entries_by caller k m.0.seen ≡ [])) m.0.free n z.free_entries mine in record {
     sound = record {
       fixed_part = z.fixed_part;
-      below_64 = f.0;
+      numbered = f.0;
       own_entries = f.1;
-      free_entries = All-nil (λ k. (k < 64) × (entries_by caller k m.0.seen ≡ []));
+      free_entries = All-nil (λ k. (k < CALLERS) × (entries_by caller k m.0.seen ≡ []));
       ended_entries = All-nil (λ (x : ℕ × List E). entries_by caller x.0 m.0.seen ≡ x.1);
       other_entries = z.other_entries;
       turn_lengths = All-nil (λ t. t ≤ length m.0.seen);

@@ -1,6 +1,7 @@
 -- What each step on the table tells the seat that makes it.
 use Rattle.std.specs.Prelude.{◌≡◌, ◌≢◌, ℕ, ◌%◌, ◌^◌, ◌≤◌, ◌<◌, false, List, [], ◌∷◌, ◌++◌, length, Option, Some, All}
 use Rattle.atomic_table.specs.Table.{Me, Step}
+use Rattle.bp_types.specs.declared.limits.TheConstants.{CALLERS}
 use Rattle.bp_turn.specs.declared.table.View.{View}
 use Rattle.bp_turn.specs.Prefix.{IsPrefix}
 use Rattle.bp_turn.specs.Seat.{IsSoundView}
@@ -13,7 +14,7 @@ Sat B F E = Me (Option B) (View F E)
 module _ {B F E : Type 0} where
   -- a seat without a number, which waits for nothing and holds nothing
   abbrev pub IsNote : Sat B F E → Type 0
-  IsNote m = (64 ≤ m.0.number) × (m.0.free ≡ []) × (m.0.ended ≡ []) × (m.0.has_ticket ≡ false) × (m.0.has_turn ≡ false) × (m.1 ≡ [])
+  IsNote m = (CALLERS ≤ m.0.number) × (m.0.free ≡ []) × (m.0.ended ≡ []) × (m.0.has_ticket ≡ false) × (m.0.has_turn ≡ false) × (m.1 ≡ [])
 
   -- a ticket was drawn, which the word showed
   abbrev pub Drew : Step (Option B) → Sat B F E → ℕ → Sat B F E → Type 0
@@ -49,4 +50,4 @@ module _ {B F E : Type 0} (fix : B → F) (story : B → List E) (caller : E →
   Learnt st m r m' =
       (m' ≡ m) × (length m.0.told ≤ length m.0.seen → IsPrefix m.0.told m.0.seen)
       × ((f g : F) → m.0.fixed ≡ Some f → m.0.told_fixed ≡ Some g → m.0.told_fixed ≡ m.0.fixed)
-      × (m.0.number < 64 → (f : F) × (m.0.fixed ≡ Some f) → All (λ t. t ≤ length m.0.seen) m.0.turns → IsSoundView caller m.0)
+      × (m.0.number < CALLERS → (f : F) × (m.0.fixed ≡ Some f) → All (λ t. t ≤ length m.0.seen) m.0.turns → IsSoundView caller m.0)

@@ -2,8 +2,9 @@
 use Rattle.std.specs.Prelude.{◌≡◌, ℕ, Bool, false, List, [], ◌∷◌, length, Option, Some, None, if◌then◌else◌, ◌<◌, ◌≤◌, All}
 use Rattle.atomic_table.specs.Table.{Me}
 use Rattle.atomic_table.specs.Seated.{TableId}
+use Rattle.bp_types.specs.declared.limits.TheConstants.{CALLERS}
 use Rattle.bp_turn.specs.declared.table.View.{View}
-use Rattle.bp_turn.specs.Callers.{entries_by, numbers_from}
+use Rattle.bp_turn.specs.Callers.{entries_by, numbers_to_hand_out}
 
 -- What a seat is, has seen and has done.
 -- `lock` is the lock that it is of, `fixed` the fixed part of that lock's value, `number` the number that it logs under. It has seen the prefix `seen` of the history, in which `own` is what it logged.
@@ -23,11 +24,11 @@ pub record SeatState (F E : Type 0) : Type 0 where
 -- What was seen agrees with what is kept: the entries under the number are its own, those under an ended number the ones kept with it, and none is under a number that may still be handed out or under one that no seat has.
 pub record Agrees {F E : Type 0} (caller : E → ℕ) (fixed : Option F) (number : ℕ) (seen own : List E) (free : List ℕ) (ended : List (ℕ × List E)) (turns : List ℕ) : Type 0 where
   pub fixed_part : (f : F) × (fixed ≡ Some f)
-  pub below_64 : number < 64
+  pub numbered : number < CALLERS
   pub own_entries : entries_by caller number seen ≡ own
-  pub free_entries : All (λ n. (n < 64) × (entries_by caller n seen ≡ [])) free
+  pub free_entries : All (λ n. (n < CALLERS) × (entries_by caller n seen ≡ [])) free
   pub ended_entries : All (λ (x : ℕ × List E). entries_by caller x.0 seen ≡ x.1) ended
-  pub other_entries : (n : ℕ) → 64 ≤ n → entries_by caller n seen ≡ []
+  pub other_entries : (n : ℕ) → CALLERS ≤ n → entries_by caller n seen ≡ []
   pub turn_lengths : All (λ t. t ≤ length seen) turns
 
 module _ {F E : Type 0} where
@@ -37,7 +38,7 @@ module _ {F E : Type 0} where
 
   -- the first seat of a lock whose value has this fixed part and this story
   abbrev pub first_seat : TableId → F → List E → SeatState F E
-  first_seat lock fixed story = record { lock = lock; fixed = Some fixed; number = 0; seen = story; own = story; free = numbers_from 1 63; ended = []; has_turn = false; turns = []; looks = [] }
+  first_seat lock fixed story = record { lock = lock; fixed = Some fixed; number = 0; seen = story; own = story; free = numbers_to_hand_out; ended = []; has_turn = false; turns = []; looks = [] }
 
   -- a seat that was just split off another, with the number n
   abbrev pub new_seat : SeatState F E → ℕ → SeatState F E

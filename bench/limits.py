@@ -95,8 +95,53 @@ def long_journal(size):
     return ["judge", "problem", "journal"], {"problem": NO_DEMAND, "journal": "p" * size}
 
 
+def night(rooms):
+    return desk(hotel=HOTEL + f'[[night]]\ndate = "2025-07-01"\nrooms = {rooms}\n')
+
+
+def full(settings, commands):
+    """One session that makes so many commands at a house with these settings: in turn a booking and a new forecast."""
+    records = ["1,book,P0,,,", "1,reforecast,P1,,,1"] * commands
+    return script(*records[:commands], hotel=HOTEL + settings + "\n")
+
+
+def long_file(name, text, size):
+    """A line of `desk` with one file of so many bytes."""
+    return desk(**{name: text + "A" * (size - len(text))})
+
+
+def hotels(count):
+    """A portfolio of so many hotels, each with the same files."""
+    line = "hotel stays forecast bookings script\n"
+    return ["portfolio", "list", "--workers", "0"], {**EMPTY, "list": f"portfolio 1\nhotels {count}\n" + line * count + "end\n"}
+
+
+def named(size):
+    """A portfolio whose hotel file has a name of so many bytes, with which no file is there."""
+    line = "n" * size + " stays forecast bookings script\n"
+    return ["portfolio", "list"], {**EMPTY, "list": "portfolio 1\nhotels 1\n" + line + "end\n"}
+
+
+def long_list(size):
+    return ["portfolio", "list"], {"list": "p" * size}
+
+
+def scenarios(lines):
+    return ["scenarios", "problem", "changes"], {"problem": problem(), "changes": "\n".join(["scenarios 1", *lines, "end", ""])}
+
+
+def changed(line, count=1):
+    """One scenario of so many times this change, at three nights of two rooms and one stay."""
+    return scenarios(["scenario"] + [line] * count)
+
+
+def demo(seed=7, nights=9, rooms=2, stays=12):
+    return ["demo", *map(str, (seed, nights, rooms, stays))], {}
+
+
 USAGE = "usage"
-TAKEN = "taken"  # any answer but a refusal or the usage
+TAKEN = "taken"  # any answer but a refusal or the usage, of a run that is whole
+CUT = "cut"  # a run that a limit of its house has cut
 NOBODY = 18_446_744_073_709_551_615
 
 # What has a limit; the line at its edge, with what is printed; and the line one past it, with what is printed.
@@ -154,11 +199,37 @@ LIMITS = [
     ("what a group pays, 10^15", script(f"1,group,2025-07-01,1,1,{10**15}"), TAKEN, script(f"1,group,2025-07-01,1,1,{10**15 + 1}"), "refused 5 limit 2"),
     ("commands of a script, 200,000", script(*["1,cancel,1,,,"] * 200_000), TAKEN, script(*["1,cancel,1,,,"] * 200_001), "refused 5 limit 200002"),
     ("workers, 16", desk("16"), TAKEN, desk("17"), USAGE),
+    ("rooms of one night, 10,000", night(10_000), TAKEN, night(10_001), "refused 1 nightshape 0"),
+    ("commands of a run, as many as entries", full("entries = 3", 3), TAKEN, full("entries = 3", 4), CUT),
+    ("vectors of a run, enough and too few", full("stale_after = 2\npublications = 5", 3), TAKEN, full("stale_after = 2\npublications = 1", 3), CUT),
+    ("a hotel file, 16 MiB", long_file("hotel", HOTEL + "#", 2**24), TAKEN, long_file("hotel", HOTEL + "#", 2**24 + 1), "refused 1 toolong"),
+    ("a stays file, 16 MiB", long_file("stays", STAYS, 2**24), "refused 2 code 4", long_file("stays", STAYS, 2**24 + 1), "refused 2 toolong"),
+    ("a script, 16 MiB", long_file("script", SCRIPT, 2**24), "refused 5 session 2", long_file("script", SCRIPT, 2**24 + 1), "refused 5 toolong"),
+    ("hotels of a list, 8", hotels(8), TAKEN, hotels(9), "refused 1 limit 2"),
+    ("hotels of a list, 1", hotels(1), TAKEN, hotels(0), "refused 1 limit 2"),
+    ("a name in a list, 200 bytes", named(200), "fault 2", named(201), "refused 1 badline 3"),
+    ("a list, 16 MiB", long_list(2**24), "refused 1 tooshort", long_list(2**24 + 1), "refused 1 toolong"),
+    ("scenarios, 20,000", scenarios(["scenario"] * 20_000), TAKEN, scenarios(["scenario"] * 20_001), "refused 2 limit 20002"),
+    ("change lines, 100,000", changed("rate 0 7", 100_000), TAKEN, changed("rate 0 7", 100_001), "refused 2 limit 100003"),
+    ("UNITS, 1", changed("rooms 0 3 up 1"), TAKEN, changed("rooms 0 3 up 0"), "refused 2 limit 3"),
+    ("UNITS, 10,000", changed("rooms 0 1 down 10000"), "scenario 1 refused 1", changed("rooms 0 1 down 10001"), "refused 2 limit 3"),
+    ("TO of a change, the nights", changed("rooms 0 3 up 1"), TAKEN, changed("rooms 0 4 up 1"), "refused 2 limit 3"),
+    ("rooms after a change, 10,000", changed("rooms 0 1 up 9998"), TAKEN, changed("rooms 0 1 up 9999"), "scenario 1 refused 1"),
+    ("rooms after a change, 0", changed("rooms 0 1 down 2"), TAKEN, changed("rooms 0 1 down 3"), "scenario 1 refused 1"),
+    ("STAY of a change, the last", changed("demand 0 1"), TAKEN, changed("demand 1 1"), "refused 2 limit 3"),
+    ("a changed forecast, 1,000,000", changed("demand 0 1000000"), TAKEN, changed("demand 0 1000001"), "refused 2 limit 3"),
+    ("a changed rate, 10^9", changed("rate 0 1000000000"), TAKEN, changed("rate 0 1000000001"), "refused 2 limit 3"),
+    ("a changed rate, 1", changed("rate 0 1"), TAKEN, changed("rate 0 0"), "refused 2 limit 3"),
+    ("nights of a demo, 1", demo(nights=1), TAKEN, demo(nights=0), USAGE),
+    ("nights of a demo, 400", demo(nights=400), TAKEN, demo(nights=401), USAGE),
+    ("rooms of a demo, 10,000", demo(rooms=10_000), TAKEN, demo(rooms=10_001), USAGE),
+    ("stays of a demo, 4,000", demo(stays=4_000), TAKEN, demo(stays=4_001), USAGE),
+    ("a seed, 999,999,999", demo(seed=999_999_999), TAKEN, demo(seed=1_000_000_000), USAGE),
 ]
 
 
 def said(line, folder):
-    """The first line that is printed, which is USAGE for the usage text, and TAKEN for every answer of statuses 0 and 7."""
+    """The first line that is printed, which is USAGE for the usage text, TAKEN for an answer, and CUT at status 7."""
     words, files = line
     for name, text in files.items():
         with open(os.path.join(folder, name), "w") as out:
@@ -167,7 +238,9 @@ def said(line, folder):
     if done.returncode == 2:
         return USAGE
     first = done.stdout.split(b"\n", 1)[0].decode()
-    return first if done.returncode in (1, 3) or first.startswith("legal") else TAKEN if done.returncode in (0, 7) else f"status {done.returncode}"
+    if done.returncode in (1, 3, 4) or first.startswith("legal") or " refused " in first:
+        return first
+    return {0: TAKEN, 7: CUT}.get(done.returncode, f"status {done.returncode}")
 
 
 def main():

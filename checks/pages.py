@@ -1,11 +1,12 @@
 #!/usr/bin/env python3
 """Runs each line of the program that a page shows, and compares what it prints with what stands there.
 
-A line of a block is shown behind `$ bidprice`, or a path to it; one of `printf` makes a file for it. It is run where its files are: at the top
-of the repository, or in the example's folder that has them all. Where a page cuts a text short, by a line of two or more
-dots, the pieces that it shows have to stand there in their order. A line that writes to a file keeps it for the lines
-behind it, and since threads write it, the numbers that are said of it may be others. Wants the kit's `rt` where the
-program is not built yet, and Python's standard library alone.
+A line of a block is shown behind `$ bidprice`, or a path to it; one of `printf` makes a file for it, one of `grep` looks
+into a file that it wrote, and one of `examples/` runs a script of the examples, where the solver that it asks is there.
+It is run where its files are: at the top of the repository, or in the example's folder that has them all. Where a page
+cuts a text short, by a line of two or more dots, the pieces that it shows have to stand there in their order. A line that
+writes to a file keeps it for the lines behind it, and since threads write it, the numbers that are said of it may be
+others. Wants the kit's `rt` where the program is not built yet, and Python's standard library alone.
 """
 import re
 import shlex
@@ -28,8 +29,10 @@ def shown(page):
         starts = [at for at, line in enumerate(lines) if line.startswith("$ ")] + [len(lines)]
         for start, end in zip(starts, starts[1:]):
             words = shlex.split(lines[start][2:])
-            if words and Path(words[0]).name in ("bidprice", "printf"):
+            if words and Path(words[0]).name in ("bidprice", "printf", "grep"):
                 yield [Path(words[0]).name, *words[1:]], lines[start + 1 : end]
+            elif words and words[0].startswith("examples/"):
+                yield words, lines[start + 1 : end]
 
 
 def names(words):
@@ -41,6 +44,15 @@ def folder_of(words, folders):
     """The first folder that has every file that a line reads."""
     read = names(words[: words.index(">")] if ">" in words else words)
     return next((folder for folder in folders if all((folder / name).is_file() for name in read)), None)
+
+
+def command_of(verb, program, top):
+    """What a line's first word runs, and why this machine cannot run it, or None."""
+    if verb == "bidprice":
+        return [program], None
+    if verb == "grep":
+        return ["grep"], None
+    return [top / verb], None if shutil.which("glpsol") else "glpsol is not there"
 
 
 def agree(said, wanted):
@@ -82,13 +94,17 @@ def main():
                 if verb == "printf":
                     (top / words[-1]).write_text(words[0].replace("\\n", "\n"))
                     continue
-                name = f"{page}: bidprice {' '.join(words)}"
-                folder = folder_of(words, folders)
+                name = f"{page}: {verb} {' '.join(words)}"
+                folder = top if verb.startswith("examples/") else folder_of(words, folders)
+                command, lacks = command_of(verb, program, top)
+                if lacks:
+                    tally.skip(name, lacks)
+                    continue
                 if folder is None:
                     tally.skip(name, "it names files of the reader's own")
                     continue
                 goes_to = words.index(">") if ">" in words else len(words)
-                done = subprocess.run([program, *words[:goes_to]], cwd=folder, capture_output=True, text=True, timeout=60)
+                done = subprocess.run([*command, *words[:goes_to]], cwd=folder, capture_output=True, text=True, timeout=60)
                 if goes_to < len(words):
                     (folder / words[goes_to + 1]).write_text(done.stdout)
                     written.add(words[goes_to + 1])

@@ -16,7 +16,8 @@ def row_of(folder):
         with open(os.path.join(folder, "row")) as file:
             status, entries, vectors, value, taken, verdict = file.read().strip().split(" ", 5)
     except FileNotFoundError:
-        return ["-", "-", "-", "-", "-", "not run, or ended half way: call the script again"]
+        begun = os.path.exists(os.path.join(folder, "said"))
+        return ["-", "-", "-", "-", "-", "ended half way: call the script again" if begun else "not run yet"]
     return [status, entries, vectors, value, f"{int(taken) / 1000:.2f}", verdict]
 
 

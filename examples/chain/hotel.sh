@@ -3,17 +3,20 @@
 #
 #     hotel.sh FOLDER/HOTEL
 #
-# A hotel that has its row is left as it is. The journal and the row come by a rename, so a run that is ended half way
-# leaves neither, and the next call begins anew. BIDPRICE names the program where it is not this repository's.
+# A hotel that has its journal is left as it is; one without, refused or ended half way, begins anew. The journal and the
+# row come by a rename, so a run that is ended half way leaves neither. BIDPRICE names the program where it is not this
+# repository's.
 here=$(dirname -- "$(readlink -f -- "$0")")
 program=${BIDPRICE:-$here/../../crates/bidprice/out/bidprice}
 files="hotel.toml stays.csv forecast.csv bookings.csv"
 cd -- "$1" || exit 1
-[ -e row ] && exit 0
+[ -e row ] && [ -e journal ] && exit 0
+rm -f row journal
 begin=$(date +%s%N)
 # shellcheck disable=SC2086
 "$program" desk $files script.csv --workers 2 >journal.part 2>said
 status=$?
+entries=- vectors=- value=-
 case $status in
 0 | 7)
     # shellcheck disable=SC2086
@@ -23,12 +26,13 @@ case $status in
     value=$(grep '^value ' journal.part | tail -n 1 | cut -d ' ' -f 2)
     mv journal.part journal
     ;;
-*)
-    verdict=$(head -n 1 journal.part)
-    entries=- vectors=- value=-
-    rm journal.part
-    ;;
+2) verdict="the words are no line" ;;
+3 | 4) verdict=$(head -n 1 journal.part) ;;
+5) verdict="the journal could not be written" ;;
+6) verdict="no memory" ;;
+*) verdict="ended by status $status" ;;
 esac
+rm -f journal.part
 taken=$((($(date +%s%N) - begin) / 1000000))
 echo "$status $entries $vectors $value $taken $verdict" >row.part
 mv row.part row

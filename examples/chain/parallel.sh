@@ -3,8 +3,8 @@
 #
 #     parallel.sh FOLDER [PROCESSES]
 #
-# As many at once as there are processors, or PROCESSES. Hotels that have their row are left as they are, so a run that
-# was ended goes on where it was.
+# As many at once as there are processors, or PROCESSES. Hotels that have their journal are left as they are, so a
+# run that was ended goes on where it was.
 here=$(dirname -- "$(readlink -f -- "$0")")
 command -v parallel >/dev/null || { echo "GNU parallel is not there: it is in Debian's package parallel"; exit 1; }
 begin=$(date +%s%N)

@@ -1,10 +1,11 @@
 #!/bin/bash
 # Runs the desks of a chain as an array of Slurm jobs, one hotel a job (Debian: slurm-wlm).
 #
-#     slurm.sh FOLDER
+#     slurm.sh FOLDER [PROCESSES]
 #
-# The controller and one node, this machine, are started on the loopback address for this call, and ended with it. On a
-# cluster that is there, the line with sbatch is all that is wanted. Hotels that have their row are left as they are.
+# As many at once as there are processors, or PROCESSES. The controller and one node, this machine, are started on the
+# loopback address for this call, and ended with it. On a cluster that is there, the line with sbatch is all that is
+# wanted. Hotels that have their journal are left as they are.
 set -u
 here=$(dirname -- "$(readlink -f -- "$0")")
 chain=$(readlink -f -- "$1")
@@ -37,7 +38,7 @@ SlurmctldPidFile=$work/slurmctld.pid
 SlurmdPidFile=$work/slurmd.pid
 SlurmctldLogFile=$work/slurmctld.log
 SlurmdLogFile=$work/slurmd.log
-NodeName=$node NodeAddr=127.0.0.1 CPUs=$(nproc) State=UNKNOWN
+NodeName=$node NodeAddr=127.0.0.1 CPUs=${2:-$(nproc)} State=UNKNOWN
 PartitionName=all Nodes=$node Default=YES MaxTime=INFINITE State=UP
 CONF
 mkdir "$work/state" "$work/spool"

@@ -109,11 +109,18 @@ fn the_names_of_two_hotels(rt: HostRuntime) -> Result<(), Fail> {
         "bookings.csv",
         "script.csv",
     ];
-    for (file, name) in (0..5).zip(names) {
-        assert!(rt; first.name(file) == name, "{name}");
-    }
-    for (file, name) in (0..5).zip(["~/sea/hotel", "!", "\"b\"", "c-", "d,e"]) {
-        assert!(rt; second.name(file) == name, "{name}");
+    let others = ["~/sea/hotel", "!", "\"b\"", "c-", "d,e"];
+    for file in 0..5 {
+        assert!(rt;
+            first.name(file) == names[file as usize],
+            "{}",
+            names[file as usize]
+        );
+        assert!(rt;
+            second.name(file) == others[file as usize],
+            "{}",
+            others[file as usize]
+        );
     }
     Ok(())
 }

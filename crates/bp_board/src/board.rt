@@ -34,7 +34,7 @@ impl Model for Board {
 }
 
 impl Board {
-    /// A board for a position, that is a number of entries, with a certificate of 1 to 400 prices.
+    /// A board for a position, that is a number of entries, with a certificate of 1 to `MOST_NIGHTS` prices.
     pub fn new(alloc: Global, position: u64, certificate: Certificate) -> Result<Board, Memory>
         requires { HasPrices certificate }
         ensures { IfOk result (λ b. b ≡ record { position = position; certificate = certificate }) }

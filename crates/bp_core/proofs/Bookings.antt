@@ -16,7 +16,7 @@ use Rattle.bp_core.specs.declared.line.Line.{Line}
 use Rattle.bp_core.specs.declared.roll.Booking.{Booking}
 use Rattle.bp_core.specs.Acting.{plain_line}
 use Rattle.bp_core.specs.Lines.{History, is_book_by, is_command, commands, is_cancellation, is_cancel_of, is_cancelled, nth_book, is_accepted, booked_stay, command_of}
-use Rattle.bp_core.specs.Callers.{may_act, has_enrolled, has_left}
+use Rattle.bp_core.specs.Callers.{greatest_caller, may_act, has_enrolled, has_left}
 use Rattle.bp_core.specs.Answer.{IsReply, cancel_reply, given_up_reply}
 use Rattle.bp_core.specs.Legal.{IsLegal}
 use Rattle.bp_core.specs.Keeping.{AreBookingsOf, fate_by}
@@ -29,7 +29,7 @@ pub act_is_small : (h : Inn) (H : History) (caller : ℕ) → IsLegal h H → Is
 act_is_small h H caller legal may =
     elim (or_cases (caller == 0) (has_enrolled H caller && not (has_left H caller)) may) [
       | inl opener ↦ omega (arith, eqb-true _ _ opener)
-      | inr enrolled ↦ let small : caller ≤ 63 = (counted_at h H legal).numbered caller (and_parts _ _ enrolled).0 in omega (arith, small)
+      | inr enrolled ↦ let small : caller ≤ greatest_caller = (counted_at h H legal).numbered caller (and_parts _ _ enrolled).0 in omega (arith, small)
     ]
 
 -- every booking call is a command

@@ -8,12 +8,13 @@ use Rattle.bp_types.specs.Claim.{Claim}
 use Rattle.bp_types.specs.Sums.{sum_below}
 use Rattle.bp_types.specs.House.{Inn}
 use Rattle.bp_types.proofs.SumLemmas.{sum_below-at, sum_below-cong}
+use Rattle.bp_types.specs.declared.limits.TheConstants.{CALLERS}
 use Rattle.bp_core.specs.declared.line.Act.{Act}
 use Rattle.bp_core.specs.declared.line.Act.TheVariants.{Do, Publish, Enrol, Leave}
 use Rattle.bp_core.specs.declared.line.Reply.{Reply}
 use Rattle.bp_core.specs.declared.line.Line.{Line}
 use Rattle.bp_core.specs.Lines.{History, is_by, is_command, is_publish, command_of, published_position, commands, vectors}
-use Rattle.bp_core.specs.Callers.{is_enrol, is_leave, is_enrol_by, is_leave_by, has_enrolled, has_left, may_act, may_enrol, may_log}
+use Rattle.bp_core.specs.Callers.{greatest_caller, is_enrol, is_leave, is_enrol_by, is_leave_by, has_enrolled, has_left, may_act, may_enrol, may_log}
 use Rattle.bp_core.specs.Legal.{IsLegal, is_allowed}
 use Rattle.bp_core.specs.Keeping.{entry_room}
 use Rattle.bp_core.proofs.Pushes.{count-push, any-push}
@@ -39,16 +40,16 @@ length_by_kind (x ∷ H) =
 
 -- one for each caller that has done something
 abbrev pub number_of : (ℕ → Bool) → ℕ
-number_of did = sum_below (λ c. cond (did c) 1 0) 64
+number_of did = sum_below (λ c. cond (did c) 1 0) CALLERS
 
 number_small : (did : ℕ → Bool) (n : ℕ) → sum_below (λ c. cond (did c) 1 0) n ≤ n
 number_small did zero = omega arith
 number_small did (suc n) = elim (cases_Bool (did n)) [ inl t ↦ omega (arith, number_small did n, ap (λ (b : Bool). cond {A = ℕ} b 1 0) t) | inr f ↦ omega (arith, number_small did n, ap (λ (b : Bool). cond {A = ℕ} b 1 0) f) ]
 
 -- one caller more
-one_more_caller : (did now : ℕ → Bool) (c : ℕ) → c ≤ 63 → did c ≡ false → now c ≡ true → ((k : ℕ) → (k ≡ c → ⊥) → did k ≡ now k) → number_of did + 1 ≡ number_of now
+one_more_caller : (did now : ℕ → Bool) (c : ℕ) → c ≤ greatest_caller → did c ≡ false → now c ≡ true → ((k : ℕ) → (k ≡ c → ⊥) → did k ≡ now k) → number_of did + 1 ≡ number_of now
 one_more_caller did now c small before after others =
-    let at = sum_below-at (λ k. cond (did k) 1 0) (λ k. cond (now k) 1 0) 64 c (omega arith) (λ k h ne. ap (λ (b : Bool). cond {A = ℕ} b 1 0) (others k ne)) in
+    let at = sum_below-at (λ k. cond (did k) 1 0) (λ k. cond (now k) 1 0) CALLERS c (omega arith) (λ k h ne. ap (λ (b : Bool). cond {A = ℕ} b 1 0) (others k ne)) in
     omega (arith, at, ap (λ (b : Bool). cond {A = ℕ} b 1 0) before, ap (λ (b : Bool). cond {A = ℕ} b 1 0) after)
 
 pub none_of_some : (p q : Line → Bool) (H : History) → list_any p H ≡ false → list_any (λ x. p x && q x) H ≡ false
@@ -112,11 +113,11 @@ left_stays H caller act reply certificate no_leave k =
     sym (left_by H caller act reply certificate k ∙ ap (λ b. has_left H k || ((caller == k) && b)) no_leave ∙ ap (λ b. has_left H k || b) (and_false (caller == k)) ∙ did_old (has_left H k))
 
 number_same : (did now : ℕ → Bool) → ((k : ℕ) → did k ≡ now k) → number_of did ≡ number_of now
-number_same did now same = sum_below-cong (λ k. cond (did k) 1 0) (λ k. cond (now k) 1 0) 64 (λ k h. ap (λ (b : Bool). cond {A = ℕ} b 1 0) (same k))
+number_same did now same = sum_below-cong (λ k. cond (did k) 1 0) (λ k. cond (now k) 1 0) CALLERS (λ k h. ap (λ (b : Bool). cond {A = ℕ} b 1 0) (same k))
 
 -- the counts of enrolled and of gone callers, and that they have numbers
 pub record AreCounted (H : History) : Type 0 where
-  pub numbered : (c : ℕ) → has_enrolled H c ≡ true → c ≤ 63
+  pub numbered : (c : ℕ) → has_enrolled H c ≡ true → c ≤ greatest_caller
   pub enrolled : count_by enrols H ≡ number_of (has_enrolled H)
   pub left : count_by leaves H ≡ number_of (has_left H)
 
@@ -136,7 +137,7 @@ counted_enrol : (H : History) (caller : ℕ) (reply : Reply) (certificate : Opti
 counted_enrol H caller reply certificate may counted =
     let x : Line = record { entry = record { caller = caller; act = Enrol; reply = reply }; certificate = certificate } in
     let parts = and_parts _ _ may in
-    let small : caller ≤ 63 = leb-true _ _ (and_parts _ _ parts.0).1 in
+    let small : caller ≤ greatest_caller = leb-true _ _ (and_parts _ _ parts.0).1 in
     let fresh : has_enrolled H caller ≡ false = none_of_some (is_by caller) (λ (y : Line). is_enrol y.entry.act) H (not-true _ parts.1) in
     let here : has_enrolled (H ++ x ∷ []) caller ≡ true = enrolled_by H caller Enrol reply certificate caller ∙ ap (λ b. has_enrolled H caller || (b && true)) (own_number caller) ∙ did_true (has_enrolled H caller) in
     let others : (k : ℕ) → (k ≡ caller → ⊥) → has_enrolled H k ≡ has_enrolled (H ++ x ∷ []) k = λ k ne. sym (enrolled_by H caller Enrol reply certificate k ∙ ap (λ b. has_enrolled H k || (b && true)) (other_number caller k ne) ∙ did_old (has_enrolled H k)) in
@@ -193,4 +194,4 @@ vectors_fit h H legal =
 pub has_room : (h : Inn) (H : History) → IsLegal h H → length H < entry_room h
 has_room h H legal =
     let counted = counted_at h H legal in
-    omega (arith, length_by_kind H, commands_fit h H legal, vectors_fit h H legal, counted.enrolled, counted.left, number_small (has_enrolled H) 64, number_small (has_left H) 64)
+    omega (arith, length_by_kind H, commands_fit h H legal, vectors_fit h H legal, counted.enrolled, counted.left, number_small (has_enrolled H) CALLERS, number_small (has_left H) CALLERS)

@@ -11,7 +11,7 @@ use Rattle.bp_core.specs.declared.roll.Standing.{Standing}
 use Rattle.bp_core.specs.declared.roll.Standing.TheVariants.{New, Present, Gone}
 use Rattle.bp_core.specs.Acting.{plain_line}
 use Rattle.bp_core.specs.Lines.{History, is_by}
-use Rattle.bp_core.specs.Callers.{may_log, is_leave, has_enrolled, has_left}
+use Rattle.bp_core.specs.Callers.{greatest_caller, may_log, is_leave, has_enrolled, has_left}
 use Rattle.bp_core.specs.Legal.{IsLegal, IsLegalLine}
 use Rattle.bp_core.specs.Log.{LogView}
 use Rattle.bp_core.specs.Roll.{RollView, standing_of, with_standing}
@@ -112,7 +112,7 @@ leave_follows h log roll inventory forecasts rates caller kept small may =
 
 -- the callers that enrol, or leave, have numbers
 pub enrol_is_small : (h : Inn) (H : History) (caller : ℕ) → IsLegal h H → IsTrue (may_log H caller Enrol) → caller < CALLERS
-enrol_is_small h H caller legal may = let small : caller ≤ 63 = leb-true _ _ (and_parts _ _ (and_parts _ _ may).0).1 in omega (arith, small)
+enrol_is_small h H caller legal may = let small : caller ≤ greatest_caller = leb-true _ _ (and_parts _ _ (and_parts _ _ may).0).1 in omega (arith, small)
 
 pub leave_is_small : (h : Inn) (H : History) (caller : ℕ) → IsLegal h H → IsTrue (may_log H caller Leave) → caller < CALLERS
-leave_is_small h H caller legal may = let small : caller ≤ 63 = (counted_at h H legal).numbered caller (may_leave H caller may).0 in omega (arith, small)
+leave_is_small h H caller legal may = let small : caller ≤ greatest_caller = (counted_at h H legal).numbered caller (may_leave H caller may).0 in omega (arith, small)

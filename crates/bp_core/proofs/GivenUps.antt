@@ -13,7 +13,7 @@ use Rattle.bp_core.specs.declared.line.Line.{Line}
 use Rattle.bp_core.specs.declared.line.Reply.TheVariants.{Cancelled, NotBooked, AlreadyCancelled}
 use Rattle.bp_core.specs.declared.roll.Booking.{Booking}
 use Rattle.bp_core.specs.Answer.{IsReply, cancel_reply, given_up_reply}
-use Rattle.bp_core.specs.Callers.{may_act, may_log, is_enrol_by, has_enrolled, has_left}
+use Rattle.bp_core.specs.Callers.{greatest_caller, may_act, may_log, is_enrol_by, has_enrolled, has_left}
 use Rattle.bp_core.specs.Keeping.{AreBookingsOf, IsBookingOf, fate_by}
 use Rattle.bp_core.specs.Legal.{IsLegal, IsLegalLine, is_in_range}
 use Rattle.bp_core.specs.Lines.{History, is_by, is_book_by, is_accepted, is_cancelled, is_cancel_of, is_cancellation, has_given_up, nth_book}
@@ -112,7 +112,7 @@ none_before_one h H caller nth legal zeroth =
     ]
 
 -- nor does a caller past the last one
-pub none_past_callers : (h : Inn) (H : History) (caller nth : ℕ) → IsLegal h H → 63 < caller → false ≡ has_given_up H caller nth
+pub none_past_callers : (h : Inn) (H : History) (caller nth : ℕ) → IsLegal h H → greatest_caller < caller → false ≡ has_given_up H caller nth
 none_past_callers h H caller nth legal past =
     elim (cases_Bool (has_given_up H caller nth)) [
       | inr none ↦ sym none

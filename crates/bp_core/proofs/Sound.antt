@@ -142,7 +142,7 @@ sound_at h H n is legal within = at_each_position h (IsSound h) (sound_at_start 
 pub units_stay_small : (h : Inn) (H : History) (n : ℕ) → IsHouse h → IsSound h H → n < length h.rooms → units_left_at h H n ≤ MOST_UNITS
 units_stay_small h H n is sound g =
     let unit = unit_is_small h.limits.unit is.unit in
-    let left : rooms_left_at h H n ≤ 10000 = omega (arith, sound.rooms n g) in
+    let left : rooms_left_at h H n ≤ MOST_ROOMS = omega (arith, sound.rooms n g) in
     omega (arith, mul-le-mul unit.1 left)
 
 pub keeps_limits : (h : Inn) (H : History) → IsHouse h → IsSound h H → KeepsLimits h H

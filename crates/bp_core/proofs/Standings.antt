@@ -8,7 +8,7 @@ use Rattle.bp_types.specs.House.{Inn}
 use Rattle.bp_core.specs.declared.line.Act.{Act}
 use Rattle.bp_core.specs.declared.line.Act.TheVariants.{Do, Publish, Enrol, Leave}
 use Rattle.bp_core.specs.Lines.{History, is_by}
-use Rattle.bp_core.specs.Callers.{is_enrol, may_act, may_enrol, may_log, has_entry, has_enrolled, has_left, is_leave_by, left_of}
+use Rattle.bp_core.specs.Callers.{greatest_caller, is_enrol, may_act, may_enrol, may_log, has_entry, has_enrolled, has_left, is_leave_by, left_of}
 use Rattle.bp_core.specs.Legal.{IsLegal}
 use Rattle.bp_core.specs.Roll.{is_new, is_present, is_gone}
 use Rattle.bp_core.specs.Keeping.{standing_by}
@@ -20,7 +20,7 @@ use Rattle.bp_core.proofs.Pushes.{any-push}
 pub opener_may : (H : History) (caller : ℕ) → caller ≡ 0 → true ≡ may_act H caller
 opener_may H caller e = sym (ap (λ b. b || (has_enrolled H caller && not (has_left H caller))) (eq-eqb caller 0 e))
 
-pub far_may_not : (h : Inn) (H : History) (caller : ℕ) → IsLegal h H → 63 < caller → false ≡ may_act H caller
+pub far_may_not : (h : Inn) (H : History) (caller : ℕ) → IsLegal h H → greatest_caller < caller → false ≡ may_act H caller
 far_may_not h H caller legal far =
     elim (cases_Bool (may_act H caller)) [
       | inr no_act ↦ sym no_act
@@ -82,7 +82,7 @@ left_has_entry (x ∷ H) caller left =
       | inr later ↦ ap (λ b. is_by caller x || b) (left_has_entry H caller later) ∙ did_true (is_by caller x)
     ]
 
-pub new_may_enrol : (h : Inn) (H : History) (caller : ℕ) → IsLegal h H → 1 ≤ caller → caller ≤ 63 → is_new (standing_by (has_enrolled H caller) (has_left H caller)) ≡ may_enrol H caller
+pub new_may_enrol : (h : Inn) (H : History) (caller : ℕ) → IsLegal h H → 1 ≤ caller → caller ≤ greatest_caller → is_new (standing_by (has_enrolled H caller) (has_left H caller)) ≡ may_enrol H caller
 new_may_enrol h H caller legal from_one small =
     let entry = entry_is_enrolled h H legal caller (λ e. omega arith) in
     let numbers_fit = and_from _ _ (le-leb _ _ from_one) (le-leb _ _ small) in
@@ -106,10 +106,10 @@ new_may_enrol h H caller legal from_one small =
 pub opener_does_not_enrol : (H : History) (caller : ℕ) → caller ≡ 0 → false ≡ may_enrol H caller
 opener_does_not_enrol H caller e = sym (and_left _ _ (and_left _ _ (lt-leb 1 caller (omega arith))))
 
-pub far_does_not_enrol : (H : History) (caller : ℕ) → 63 < caller → false ≡ may_enrol H caller
-far_does_not_enrol H caller far = sym (and_left _ _ (go (lt-leb caller 63 far)))
+pub far_does_not_enrol : (H : History) (caller : ℕ) → greatest_caller < caller → false ≡ may_enrol H caller
+far_does_not_enrol H caller far = sym (and_left _ _ (go (lt-leb caller greatest_caller far)))
   where
-    go : nat_le caller 63 ≡ false → (nat_le 1 caller && nat_le caller 63) ≡ false
+    go : nat_le caller greatest_caller ≡ false → (nat_le 1 caller && nat_le caller greatest_caller) ≡ false
     go f = ap (λ b. nat_le 1 caller && b) f ∙ and_false (nat_le 1 caller)
 
 -- one caller more
@@ -125,8 +125,8 @@ left_step H c some =
     let here : c - 1 + 1 ≡ c = omega arith in
     ap (left_of H) same ∙ left_more H (c - 1) ∙ ap (λ k. left_of H (c - 1) + cond (has_left H k) 1 0) here
 
--- whoever has left has a number up to 63
-far_has_not_left : (h : Inn) (H : History) (c : ℕ) → IsLegal h H → 63 < c → has_left H c ≡ false
+-- whoever has left has a number up to the greatest
+far_has_not_left : (h : Inn) (H : History) (c : ℕ) → IsLegal h H → greatest_caller < c → has_left H c ≡ false
 far_has_not_left h H c legal far =
     elim (cases_Bool (has_left H c)) [
       | inr stays ↦ stays
@@ -134,19 +134,19 @@ far_has_not_left h H c legal far =
     ]
 
 -- of more callers no more have left
-left_past_all : (h : Inn) (H : History) → IsLegal h H → (k : ℕ) → left_of H (63 + k) ≡ left_of H 63
+left_past_all : (h : Inn) (H : History) → IsLegal h H → (k : ℕ) → left_of H (greatest_caller + k) ≡ left_of H greatest_caller
 left_past_all h H legal zero = refl
 left_past_all h H legal (suc k) =
-    let size : 63 + suc k ≡ 63 + k + 1 = omega arith in
-    let none = ap (λ (b : Bool). cond {A = ℕ} b 1 0) (far_has_not_left h H (63 + k + 1) legal (omega arith)) in
-    let more = left_more H (63 + k) in
-    ap (left_of H) size ∙ (let o : left_of H (63 + k + 1) ≡ left_of H (63 + k) = omega (arith, more, none) in o) ∙ left_past_all h H legal k
+    let size : greatest_caller + suc k ≡ greatest_caller + k + 1 = omega arith in
+    let none = ap (λ (b : Bool). cond {A = ℕ} b 1 0) (far_has_not_left h H (greatest_caller + k + 1) legal (omega arith)) in
+    let more = left_more H (greatest_caller + k) in
+    ap (left_of H) size ∙ (let o : left_of H (greatest_caller + k + 1) ≡ left_of H (greatest_caller + k) = omega (arith, more, none) in o) ∙ left_past_all h H legal k
 
--- so the callers up to 63 are all that is looked at
-pub left_of_fewer : (h : Inn) (H : History) (m n : ℕ) → IsLegal h H → m ≡ min n 63 → left_of H m ≡ left_of H n
+-- so the callers up to the greatest number are all that is looked at
+pub left_of_fewer : (h : Inn) (H : History) (m n : ℕ) → IsLegal h H → m ≡ min n greatest_caller → left_of H m ≡ left_of H n
 left_of_fewer h H m n legal least =
-    elim (cases_Bool (nat_le n 63)) [
-      | inl few ↦ (let below = leb-true n 63 few in let same : m ≡ n = omega (arith, least, below) in ap (left_of H) same)
-      | inr many ↦ (let above = leb-false n 63 many in let same : m ≡ 63 = omega (arith, least, above) in let size : 63 + (n - 63) ≡ n = omega (arith, above) in
-          ap (left_of H) same ∙ sym (left_past_all h H legal (n - 63)) ∙ ap (left_of H) size)
+    elim (cases_Bool (nat_le n greatest_caller)) [
+      | inl few ↦ (let below = leb-true n greatest_caller few in let same : m ≡ n = omega (arith, least, below) in ap (left_of H) same)
+      | inr many ↦ (let above = leb-false n greatest_caller many in let same : m ≡ greatest_caller = omega (arith, least, above) in let size : greatest_caller + (n - greatest_caller) ≡ n = omega (arith, above) in
+          ap (left_of H) same ∙ sym (left_past_all h H legal (n - greatest_caller)) ∙ ap (left_of H) size)
     ]

@@ -505,7 +505,7 @@ impl Book {
         roll.is_present(caller)
     }
 
-    /// Whether a caller is one of 1 to 63, and has no entry yet.
+    /// Whether a caller is one of 1 to the greatest below `CALLERS`, and has no entry yet.
     pub fn may_enrol(&self, caller: u32) -> bool
         ensures { result ≡ may_enrol self.now.history caller }
     {

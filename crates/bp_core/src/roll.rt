@@ -29,7 +29,7 @@ pub(crate) struct Booking {
     pub(crate) fate: Fate,
 }
 
-/// The standing of each of the 64 callers, and its booking calls in order.
+/// The standing of each of the callers, and its booking calls in order.
 #[derive(Drop)]
 pub(crate) struct Roll {
     standings: Vec<Standing>,

@@ -18,7 +18,7 @@ use Rattle.bp_core.specs.declared.call.Call.{Call}
 use Rattle.bp_core.specs.declared.call.Call.TheVariants.{Enrol, Leave}
 use Rattle.bp_core.specs.declared.call.Answer.{Answer}
 use Rattle.bp_core.specs.Lines.{History, calls, is_by, last_number}
-use Rattle.bp_core.specs.Callers.{is_leave, is_enrol_by, is_leave_by, has_entry, has_enrolled, has_left, may_act}
+use Rattle.bp_core.specs.Callers.{greatest_caller, is_leave, is_enrol_by, is_leave_by, has_entry, has_enrolled, has_left, may_act}
 use Rattle.bp_core.specs.Legal.{IsLegal}
 use Rattle.bp_core.specs.Acting.{act_of, line_of, IsAnswered}
 use Rattle.bp_core.specs.Changes.{deltas_between}
@@ -93,9 +93,9 @@ may_act_enrolled H caller reply none =
     or_on false = refl
 
 -- a caller with a free number may enrol
-pub may_make_enrol : (h : Inn) (H : History) (caller : ℕ) → 1 ≤ caller → caller < 64 → calls H caller ≡ [] → MayMake h H caller Enrol
+pub may_make_enrol : (h : Inn) (H : History) (caller : ℕ) → 1 ≤ caller → caller < CALLERS → calls H caller ≡ [] → MayMake h H caller Enrol
 may_make_enrol h H caller low high none = record {
-  caller_may = ap (λ b. (nat_le 1 caller && nat_le caller 63) && not b) (no_entry H caller none) ∙ bounds (nat_le 1 caller) (nat_le caller 63) (le-leb 1 caller low) (le-leb caller 63 (omega arith));
+  caller_may = ap (λ b. (nat_le 1 caller && nat_le caller greatest_caller) && not b) (no_entry H caller none) ∙ bounds (nat_le 1 caller) (nat_le caller greatest_caller) (le-leb 1 caller low) (le-leb caller greatest_caller (omega arith));
   in_range = refl;
   is_right = tt;
 }
@@ -193,9 +193,9 @@ learnt s t i j same = longer_legal (house_of s) s.seen t.seen i.legal (subst (λ
 pub next_free : (s : State) (caller next : ℕ) (v : Vector) → IsPass s caller next v → next < CALLERS → s.free ≡ next ∷ numbers_from (next + 1) (CALLERS - (next + 1))
 next_free s caller next v p some = p.free ∙ run_first next (CALLERS - next) (CALLERS - (next + 1)) (omega arith)
 
-pub next_may_enrol : (s : State) (caller next : ℕ) (v : Vector) → IsPass s caller next v → next < CALLERS → All (λ n. (n < 64) × (entries_by (λ (x : Line). x.entry.caller) n s.seen ≡ [])) s.free → MayMake (house_of s) s.seen next Enrol
+pub next_may_enrol : (s : State) (caller next : ℕ) (v : Vector) → IsPass s caller next v → next < CALLERS → All (λ n. (n < CALLERS) × (entries_by (λ (x : Line). x.entry.caller) n s.seen ≡ [])) s.free → MayMake (house_of s) s.seen next Enrol
 next_may_enrol s caller next v p some all =
-    let P : ℕ → Type 0 = λ n. (n < 64) × (entries_by (λ (x : Line). x.entry.caller) n s.seen ≡ []) in
+    let P : ℕ → Type 0 = λ n. (n < CALLERS) × (entries_by (λ (x : Line). x.entry.caller) n s.seen ≡ []) in
     let rest = numbers_from (next + 1) (CALLERS - (next + 1)) in
     let here : All P (next ∷ rest) = subst (All P) (next_free s caller next v p some) all in
     may_make_enrol (house_of s) s.seen next p.from_one some (All-head P next rest here).1
@@ -244,7 +244,7 @@ pub accounts : (s : State) → IsSound (λ (x : Line). x.entry.caller) s → Has
 accounts s sound = record {
   own = sound.own_entries;
   ended = sound.ended_entries;
-  free = All-weaker (λ (n : ℕ). (n < 64) × (calls s.seen n ≡ [])) (λ (n : ℕ). calls s.seen n ≡ []) (λ n h. h.1) s.free sound.free_entries;
+  free = All-weaker (λ (n : ℕ). (n < CALLERS) × (calls s.seen n ≡ [])) (λ (n : ℕ). calls s.seen n ≡ []) (λ n h. h.1) s.free sound.free_entries;
   others = sound.other_entries;
 }
 
@@ -291,7 +291,7 @@ accounts_at s mid H at sound =
     record {
       own = here.own_entries;
       ended = here.ended_entries;
-      free = All-weaker (λ (n : ℕ). (n < 64) × (calls H n ≡ [])) (λ (n : ℕ). calls H n ≡ []) (λ n h. h.1) s.free here.free_entries;
+      free = All-weaker (λ (n : ℕ). (n < CALLERS) × (calls H n ≡ [])) (λ (n : ℕ). calls H n ≡ []) (λ n h. h.1) s.free here.free_entries;
       others = here.other_entries;
     }
 

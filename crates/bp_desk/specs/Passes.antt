@@ -3,7 +3,7 @@ use Rattle.std.specs.Prelude.{◌≡◌, ◌≢◌, ℕ, ◌-◌, ◌≤◌, fal
 use Rattle.atomic_table.specs.Seated.{TableId}
 use Rattle.bp_types.specs.declared.limits.TheConstants.{CALLERS}
 use Rattle.bp_types.specs.House.{Inn}
-use Rattle.bp_turn.specs.Callers.{numbers_from}
+use Rattle.bp_turn.specs.Callers.{numbers_from, numbers_to_hand_out}
 use Rattle.bp_turn.specs.Seat.{SeatState}
 use Rattle.bp_core.specs.declared.line.Line.{Line}
 use Rattle.bp_core.specs.Lines.{History, calls}
@@ -70,7 +70,7 @@ pub record IsGone (s : SeatState Inn Line) (newest : Vector) : Type 0 where
 -- the pass of who opens a desk
 abbrev pub opener : TableId → Inn → Line → PassState
 opener desk house line =
-    record { desk = desk; house = house; caller = 0; seen = line ∷ []; calls = line ∷ []; free = numbers_from 1 63; ended = []; turns = []; looks = [] }
+    record { desk = desk; house = house; caller = 0; seen = line ∷ []; calls = line ∷ []; free = numbers_to_hand_out; ended = []; turns = []; looks = [] }
 
 -- a pass with a number of its own that has seen as much as another, before its first call
 abbrev pub newcomer : PassState → ℕ → PassState

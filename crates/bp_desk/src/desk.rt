@@ -48,7 +48,7 @@ impl Model for Desk {
 /// Why nobody was enrolled. Nothing was logged, and no number is gone.
 #[derive(Clone, Copy, Debug, PartialEq, Eq)]
 pub enum EnrolError {
-    /// All 63 numbers were handed out.
+    /// All numbers below `CALLERS` were handed out.
     CallersFull,
     Memory,
 }

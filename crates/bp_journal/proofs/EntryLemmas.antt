@@ -7,7 +7,7 @@ use Rattle.bp_types.specs.declared.command.Command.TheVariants.{Book, Cancel, Re
 use Rattle.bp_text.specs.Numbers.{spelled}
 use Rattle.bp_text.specs.Words.{Word, HasNoSpace, phrase}
 use Rattle.bp_text.proofs.NumberLemmas.{spelled_injective}
-use Rattle.bp_text.proofs.WordLemmas.{joined_injective, number_lacks, word_lacks, word_in_front, phrase_lacks}
+use Rattle.bp_text.proofs.WordLemmas.{first_word, joined_injective, number_lacks, word_lacks, word_in_front, phrase_lacks}
 use Rattle.bp_core.specs.declared.line.Act.{Act}
 use Rattle.bp_core.specs.declared.line.Act.TheVariants.{Do, Publish, Enrol, Leave}
 use Rattle.bp_core.specs.declared.line.Entry.{Entry}
@@ -221,9 +221,6 @@ halves (a ∷ xs) (b ∷ ys) cs ds same e =
     let t : xs ++ cs ≡ ys ++ ds = cc in
     let more = halves xs ys cs ds (omega (arith, same)) t in
     (ap (λ x. x ∷ xs) h ∙ ap (λ zs. b ∷ zs) more.0, more.1)
-
-pub first_word : (w v : Word) (ws vs : List Word) → w ∷ ws ≡ v ∷ vs → (w ≡ v) × (ws ≡ vs)
-first_word w v ws vs e = let h : w ≡ v = cc in let t : ws ≡ vs = cc in (h, t)
 
 reply_same : (r s : Reply) → phrase (reply_word r) (reply_numbers r) ≡ phrase (reply_word s) (reply_numbers s) → r ≡ s
 reply_same r s e =

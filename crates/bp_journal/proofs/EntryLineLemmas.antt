@@ -1,14 +1,14 @@
 -- From the words of a line to the entry that it tells.
-use Rattle.std.proofs.Common.{◌≡◌, ℕ, ◌==◌, ◌⊎◌, ◌<◌, ◌≤◌, ◌&&◌, refl, ap, sym, subst, ◌∙◌, arith, Bool, true, false, List, [], ◌∷◌, ◌++◌, length, map, append-nil, inl, inr, length-append}
+use Rattle.std.proofs.Common.{◌≡◌, ℕ, ◌==◌, ◌<◌, ◌≤◌, ◌&&◌, refl, ap, sym, subst, ◌∙◌, arith, Bool, true, false, List, [], ◌∷◌, ◌++◌, length, map, append-nil, length-append}
 use Rattle.std.specs.Prelude.{not, MatchBool}
-use Rattle.std.proofs.lemmas.Bool.{and_parts, and_from, cases_Bool, eqb-true, eqb-false, cond-true, cond-false}
+use Rattle.std.proofs.lemmas.Bool.{and_parts, and_from, eqb-true, eqb-false}
 use Rattle.std.proofs.lemmas.List.{length-map}
 use Rattle.bp_text.specs.Numbers.{spelled}
 use Rattle.bp_text.specs.Lines.{Line}
-use Rattle.bp_text.specs.Words.{Word, words_behind, joined, phrase, split, in_front, IsCounted}
+use Rattle.bp_text.specs.Words.{Word, phrase, split, IsCounted}
 use Rattle.bp_text.specs.declared.words.Counted.{Counted}
 use Rattle.bp_text.proofs.NumberLemmas.{spelled_injective}
-use Rattle.bp_text.proofs.WordLemmas.{split_joined}
+use Rattle.bp_text.proofs.WordLemmas.{first_word, split_joined, split_back}
 use Rattle.bp_core.specs.declared.line.Act.{Act}
 use Rattle.bp_core.specs.declared.line.Entry.{Entry}
 use Rattle.bp_core.specs.declared.line.Reply.{Reply}
@@ -21,44 +21,7 @@ use Rattle.bp_journal.specs.Journals.{entry_words, entry_text, is_known, is_form
 use Rattle.bp_journal.specs.Limits.{IsEntryWithin}
 use Rattle.bp_journal.specs.Found.{IsEntryLine, IsFound}
 use Rattle.bp_journal.specs.Told.{IsEntryFound}
-use Rattle.bp_journal.proofs.EntryLemmas.{entry_words_lack, first_word, act_same, replies_by_word, as_many_numbers}
-
--- a line is its words, joined
-in_front_back : (b : ℕ) (bs : List ℕ) (ws : List Word) (w : Word) (vs : List Word) → ((v : Word) (us : List Word) → ws ≡ v ∷ us → bs ≡ joined v us) → bs ≡ [] ⊎ (ws ≡ [] → ⊥) → in_front b ws ≡ w ∷ vs → b ∷ bs ≡ joined w vs
-in_front_back b bs [] w vs back (inl none) e =
-    let parts = first_word (b ∷ []) w [] vs e in
-    ap (λ x. b ∷ x) none ∙ ap (λ v. joined v []) parts.0 ∙ ap (joined w) parts.1
-in_front_back b bs [] w vs back (inr some) e = absurd (some refl)
-in_front_back b bs (v ∷ us) w vs back some e =
-    let parts = first_word (b ∷ v) w us vs e in
-    ap (λ x. b ∷ x) (back v us refl) ∙ ap (λ x. joined x us) parts.0 ∙ ap (joined w) parts.1
-
-in_front_is_some : (b : ℕ) (ws : List Word) → in_front b ws ≡ [] → ⊥
-in_front_is_some b [] e = cc
-in_front_is_some b (w ∷ ws) e = cc
-
-some_word : (bs : List ℕ) → split bs ≡ [] → ⊥
-some_word [] e = cc
-some_word (b ∷ bs) e = elim (cases_Bool (b == 32)) [
-  | inl space ↦ let f : [] ∷ split bs ≡ [] = sym (cond-true (b == 32) ([] ∷ split bs) (in_front b (split bs)) space) ∙ e in cc
-  | inr other ↦ in_front_is_some b (split bs) (sym (cond-false (b == 32) ([] ∷ split bs) (in_front b (split bs)) other) ∙ e)
-]
-
-space_back : (bs : List ℕ) (ws : List Word) → ((v : Word) (us : List Word) → split bs ≡ v ∷ us → bs ≡ joined v us) → split bs ≡ ws → 32 ∷ bs ≡ words_behind ws
-space_back bs [] back e = absurd (some_word bs e)
-space_back bs (v ∷ us) back e = ap (λ x. 32 ∷ x) (back v us e)
-
-pub split_back : (line : Line) (w : Word) (ws : List Word) → split line ≡ w ∷ ws → line ≡ joined w ws
-split_back [] w ws e = let parts = first_word [] w [] ws e in ap (λ v. joined v []) parts.0 ∙ ap (joined w) parts.1
-split_back (b ∷ bs) w ws e = elim (cases_Bool (b == 32)) [
-  | inl space ↦
-      let f : [] ∷ split bs ≡ w ∷ ws = sym (cond-true (b == 32) ([] ∷ split bs) (in_front b (split bs)) space) ∙ e in
-      let parts = first_word [] w (split bs) ws f in
-      ap (λ k. k ∷ bs) (eqb-true b 32 space) ∙ space_back bs ws (split_back bs) parts.1 ∙ ap (λ v. v ++ words_behind ws) parts.0
-  | inr other ↦
-      let f : in_front b (split bs) ≡ w ∷ ws = sym (cond-false (b == 32) ([] ∷ split bs) (in_front b (split bs)) other) ∙ e in
-      in_front_back b bs (split bs) w ws (split_back bs) (inr (some_word bs)) f
-]
+use Rattle.bp_journal.proofs.EntryLemmas.{entry_words_lack, act_same, replies_by_word, as_many_numbers}
 
 -- an entry's line is split into its words
 split_of_entry : (place : ℕ) (e : Entry) → split (entry_text place e) ≡ spelled place ∷ entry_words e

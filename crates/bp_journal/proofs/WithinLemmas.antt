@@ -9,7 +9,7 @@ use Rattle.std.proofs.lemmas.List.Elements.{All-nil}
 use Rattle.bp_types.specs.declared.stay.Span.{Span}
 use Rattle.bp_types.specs.declared.command.Command.{Command}
 use Rattle.bp_types.specs.declared.command.Command.TheVariants.{Book, Cancel, Reforecast, Reprice, Resize, Group}
-use Rattle.bp_types.specs.declared.limits.TheConstants.{MOST_PRICE, MOST_NIGHTS, MOST_ENTRIES, MOST_PUBLICATIONS, MOST_RATE}
+use Rattle.bp_types.specs.declared.limits.TheConstants.{MOST_PRICE, MOST_NIGHTS, MOST_ROOMS, MOST_ENTRIES, MOST_PUBLICATIONS, MOST_RATE, MOST_GROUP_ROOMS, MOST_AMOUNT}
 use Rattle.bp_types.specs.Claim.{Claim, IsCertificateOf}
 use Rattle.bp_types.specs.Program.{no_stay}
 use Rattle.bp_types.specs.House.{Inn, IsHouse, is_from_one}
@@ -23,7 +23,7 @@ use Rattle.bp_core.specs.declared.line.Line.{Line}
 use Rattle.bp_core.specs.declared.line.Reply.{Reply}
 use Rattle.bp_core.specs.declared.line.Reply.TheVariants.{TooLow, Cancelled, NotBooked, AlreadyCancelled, Done, BelowSold, GroupAccepted, GroupTooLow, GroupNoRoom}
 use Rattle.bp_core.specs.Lines.{History, line_at, no_line, is_accepted, is_cancellation, nth_book, vectors, last_number, last_prices, prices_of}
-use Rattle.bp_core.specs.Callers.{has_enrolled, has_left, may_act, may_log}
+use Rattle.bp_core.specs.Callers.{greatest_caller, has_enrolled, has_left, may_act, may_log}
 use Rattle.bp_core.specs.Instance.{span_of, rate_of, sold_at, instance_of, instance_at, rooms_left_at}
 use Rattle.bp_core.specs.Answer.{IsReply, IsCommandReply, IsPricedReply, covered_reply, given_up_reply, sum_of}
 use Rattle.bp_core.specs.Legal.{IsLegal, IsLegalLine, IsCertified, is_in_range, is_command_in_range}
@@ -66,9 +66,9 @@ from_one most n is = grind (arith, nat_tests)
 
 -- what holds at each position of a legal history
 record IsTame (h : Inn) (G : History) : Type 0 where
-  callers : (c : ℕ) → has_enrolled G c ≡ true → c ≤ 63
+  callers : (c : ℕ) → has_enrolled G c ≡ true → c ≤ greatest_caller
   few : length G ≤ 201130
-  few_vectors : vectors G ≤ 1000
+  few_vectors : vectors G ≤ MOST_PUBLICATIONS
   prices : AreSmallPrices (last_prices G)
   sound : IsSound h G
 
@@ -81,28 +81,28 @@ tame_at h H n house legal within = record {
   sound = sound_at h H n house legal within;
 }
   where
-    publications : h.limits.publications ≤ 1000
+    publications : h.limits.publications ≤ MOST_PUBLICATIONS
     publications = from_one MOST_PUBLICATIONS h.limits.publications house.publications
 
-    callers : (k : ℕ) → k ≤ length H → (c : ℕ) → has_enrolled (take k H) c ≡ true → c ≤ 63
+    callers : (k : ℕ) → k ≤ length H → (c : ℕ) → has_enrolled (take k H) c ≡ true → c ≤ greatest_caller
     callers zero inside c did = absurd (cc)
     callers (suc k) inside c did = (counted_at h (take (suc k) H) (prefixes_are_legal h H (suc k) legal (omega arith) inside)).numbered c did
 
-    few : (k : ℕ) → k ≤ length H → vectors (take k H) ≤ 1000
+    few : (k : ℕ) → k ≤ length H → vectors (take k H) ≤ MOST_PUBLICATIONS
     few zero inside = omega arith
     few (suc k) inside = omega (arith, vectors_fit h (take (suc k) H) (prefixes_are_legal h H (suc k) legal (omega arith) inside), publications)
 
 -- the caller
-may_act_small : (G : History) (caller : ℕ) → ((c : ℕ) → has_enrolled G c ≡ true → c ≤ 63) → may_act G caller ≡ true → caller ≤ 63
+may_act_small : (G : History) (caller : ℕ) → ((c : ℕ) → has_enrolled G c ≡ true → c ≤ greatest_caller) → may_act G caller ≡ true → caller ≤ greatest_caller
 may_act_small G caller callers may = elim (or_cases (caller == 0) (has_enrolled G caller && not (has_left G caller)) may) [
   | inl opener ↦ omega (arith, eqb-true caller 0 opener)
   | inr present ↦ callers caller (and_parts (has_enrolled G caller) (not (has_left G caller)) present).0
 ]
 
-caller_small : (G : History) (caller : ℕ) (act : Act) → ((c : ℕ) → has_enrolled G c ≡ true → c ≤ 63) → IsTrue (may_log G caller act) → caller ≤ 63
+caller_small : (G : History) (caller : ℕ) (act : Act) → ((c : ℕ) → has_enrolled G c ≡ true → c ≤ greatest_caller) → IsTrue (may_log G caller act) → caller ≤ greatest_caller
 caller_small G caller (Do command) callers may = may_act_small G caller callers may
 caller_small G caller (Publish position) callers may = may_act_small G caller callers may
-caller_small G caller Enrol callers may = from_one 63 caller (and_parts _ _ may).0
+caller_small G caller Enrol callers may = from_one greatest_caller caller (and_parts _ _ may).0
 caller_small G caller Leave callers may = may_act_small G caller callers (and_parts _ _ may).1
 
 -- the act
@@ -117,7 +117,7 @@ command_within h (Book stay) house is = let few = house.instance.stays in let f 
 command_within h (Cancel nth) house is = omega (arith, from_one MOST_ENTRIES nth is)
 command_within h (Reforecast stay count) house is = let few = house.instance.stays in let p = and_parts _ _ is in let f : stay < length h.stays = below _ _ p.0 in let g : count ≤ 1000000 = up_to _ _ p.1 in (omega (arith, few, f), omega (arith, g))
 command_within h (Reprice stay rate) house is = let few = house.instance.stays in let p = and_parts _ _ is in let f : stay < length h.stays = below _ _ p.0 in let g = from_one MOST_RATE rate p.1 in (omega (arith, few, f), omega (arith, g))
-command_within h (Resize night rooms) house is = let few = house.instance.nights in let p = and_parts _ _ is in let f : night < length h.rooms = below _ _ p.0 in let g : rooms ≤ 10000 = up_to _ _ p.1 in (omega (arith, few, f), omega (arith, g))
+command_within h (Resize night rooms) house is = let few = house.instance.nights in let p = and_parts _ _ is in let f : night < length h.rooms = below _ _ p.0 in let g : rooms ≤ MOST_ROOMS = up_to _ _ p.1 in (omega (arith, few, f), omega (arith, g))
 command_within h (Group span rooms amount) house is =
     let few = house.instance.nights in
     let p = and_parts _ _ is in
@@ -125,8 +125,8 @@ command_within h (Group span rooms amount) house is =
     let n = and_parts _ _ p.1 in
     let f : span.from < span.to = below _ _ s.0 in
     let t : span.to ≤ length h.rooms = up_to _ _ s.1 in
-    let r = from_one 10000 rooms n.0 in
-    let a : amount ≤ 1000000000000000 = up_to _ _ n.1 in
+    let r = from_one MOST_GROUP_ROOMS rooms n.0 in
+    let a : amount ≤ MOST_AMOUNT = up_to _ _ n.1 in
     (omega (arith, few, f, t), omega (arith, few, t), omega (arith, r), omega (arith, a))
 
 publish_within : (h : Inn) (G : History) (x : Line) → IsHouse h → length G ≤ 201130 → IsLegalLine h G x → IsActWithin x.entry.act
@@ -139,7 +139,7 @@ publish_within h G x house few legal = go x.entry.act refl legal.range
     go Leave is range = tt
 
 -- the reply
-night_within : (h : Inn) (G : History) (span : Span) (asked night : ℕ) → span.from ≤ span.to → span.to ≤ 400 → first_short (rooms_left_at h G) span asked ≡ Some night → IsHalfWord night
+night_within : (h : Inn) (G : History) (span : Span) (asked night : ℕ) → span.from ≤ span.to → span.to ≤ MOST_NIGHTS → first_short (rooms_left_at h G) span asked ≡ Some night → IsHalfWord night
 night_within h G span asked night ordered within some =
     let first = first_passes (λ n. nat_lt (rooms_left_at h G n) asked) span.from (span.to - span.from) night some in
     omega (arith, first.below, ordered, within)
@@ -180,7 +180,7 @@ command_reply_within h G caller (Book stay) r house tame range is =
     let inside : stay < length h.stays = below _ _ range in
     let span = house.instance.spans stay no_stay inside in
     let sum = price_is_small (last_prices G) (span_of h stay) tame.prices.0 in
-    let rate : rate_of h G stay ≤ 1000000000 = (tame.sound.rates stay inside).1 in
+    let rate : rate_of h G stay ≤ MOST_RATE = (tame.sound.rates stay inside).1 in
     subst IsReplyWithin (sym is) (book_within (nat_lt (rate_of h G stay) (sum_of h G stay)) (last_number G) (sum_of h G stay) (rate_of h G stay) (first_short (rooms_left_at h G) (span_of h stay) 1)
     (omega (arith, tame.few_vectors)) (omega (arith, sum, tame.prices.1)) (omega (arith, rate))
     (λ night some. night_within h G (span_of h stay) 1 night (omega (arith, span.0)) (omega (arith, span.1, house.instance.nights)) some))

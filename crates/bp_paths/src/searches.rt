@@ -1,7 +1,7 @@
 ghost use Rattle.std.specs.Prelude.{◌≡◌, ℕ, ◌+◌, ◌-◌, ◌*◌, ◌^◌, ◌<◌, ◌≤◌, [], length, replicate, slice_index, All, drop, false, IfOk};
 ghost use Rattle.bp_residual.specs.Network.{Priced, IsSlack, IsPriced, Admits, step_of, steps_of, arcs, nodes};
 ghost use Rattle.bp_paths.specs.Labels.{AreLabelsSoFar, IsTracedPath};
-ghost use Rattle.bp_paths.specs.Paths.{far, ScratchView, Serves, AreDistancesTo, IsFound, distance_of, least_room, IsReached};
+ghost use Rattle.bp_paths.specs.Paths.{far, ScratchView, Serves, AreDistancesTo, distance_of, least_room, IsReached};
 
 use crate::labels::{Labels, Notes};
 use crate::mended::mended;
@@ -193,42 +193,10 @@ fn path_to(flow: &Flow, to: u32, labels: &Labels, slots: &mut [Hop]) -> (usize, 
     (start, bottleneck(flow, &slots[start..]))
 }
 
-/// Finds a shortest residual path by reduced cost: Dijkstra's method under potentials, stopped at the target. In the
-/// worst case its time grows with the square of the nodes, and with the arcs. What an earlier search left in the
-/// scratch is gone.
-pub fn search<L: Ledger>(
-    flow: &Flow,
-    from: u32,
-    to: u32,
-    scratch: &mut Scratch,
-    steps: &mut Steps<L>,
-) -> Found
-    requires slack { IsSlack flow.now.flow (slice_index flow.now.potentials) }
-    requires from { from < nodes flow.now }
-    requires to { to < nodes flow.now }
-    requires size { length scratch.old.distances ≡ nodes flow.now }
-    ensures found { IsFound flow.now from to scratch.new result }
-    ensures size { length scratch.new.distances ≡ nodes flow.now }
-    ensures counted { steps.new ≡ steps.old + 1 }
-    ensures served { Serves scratch.old.served scratch.new.served 1 }
-{
-    steps.tick();
-    scratch.served = one_more(scratch.served);
-    let _nights = flow.nights();
-    scratch.labels.begin(flow, false, from);
-    scratch.labels.close_until(flow, false, Some(to));
-    scratch.start = scratch.slots.len();
-    if scratch.labels.kept[to as usize] == u128::MAX {
-        return Found::Unreached;
-    }
-    let (start, units) = path_to(flow, to, &scratch.labels, &mut scratch.slots);
-    scratch.start = start;
-    Found::Reached { units }
-}
-
-/// Finds a shortest residual path by the same method, and ends as soon as the target is closed: the distances are
-/// exact below the target's, and no others are less. Nodes that are as near as the target stay open, so where many
-/// are, as under equal rates, most of the network is never looked at.
+/// Finds a shortest residual path by reduced cost: Dijkstra's method under potentials, which ends as soon as the target
+/// is closed. The distances are exact below the target's, and no others are less. Nodes that are as near as the target
+/// stay open, so where many are, as under equal rates, most of the network is never looked at. In the worst case its
+/// time grows with the square of the nodes, and with the arcs. What an earlier search left in the scratch is gone.
 pub fn reach<L: Ledger>(
     flow: &Flow,
     from: u32,
@@ -285,6 +253,6 @@ pub fn search_to<L: Ledger>(flow: &Flow, to: u32, scratch: &mut Scratch, steps: 
         return;
     }
     scratch.labels.begin(flow, true, to);
-    scratch.labels.close_until(flow, true, None);
+    scratch.labels.close_all(flow, true);
     scratch.ways.keep(&scratch.labels.via, &scratch.labels.rank);
 }

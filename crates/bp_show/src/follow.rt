@@ -12,6 +12,7 @@ use crate::name::Name;
 use crate::naming::{Names, Shows};
 use crate::order::{Chronicle, Commit, Gift, Place, Prepare};
 use crate::sums::Sums;
+use bp_types::limits::MOST_VIEWS;
 use left_right::writer::Writer;
 use std::alloc::AllocError;
 use std::sync::{Arc, Wait};
@@ -74,7 +75,7 @@ pub(crate) fn hand_out(chronicle: &Arc<Chronicle>, place: &mut Place, face: &Fac
     requires gift { (face.now.gift.table_id ≡ place.old.table_id) × (face.now.gift.view ≡ gift place.old.me.0) }
     ensures { (place.new.table_id ≡ place.old.table_id) × (place.new.me ≡ place.old.me) }
 {
-    for index in 0..16 {
+    for index in 0..MOST_VIEWS as usize {
         let seat = chronicle.shared.split_seat::<Gift>(place);
         face.gift.give(index, seat);
     }

@@ -159,7 +159,7 @@ impl Stage {
 
     /// Another view, which has seen all that was shown.
     fn view(&mut self, index: usize) -> Result<View, AllocError>
-        requires { index < 16 }
+        requires { index < MOST_VIEWS }
         ensures stage { self.new ≡ self.old }
         ensures view { IfOk result (λ v. v ≡ self.old) }
     {

@@ -1,6 +1,6 @@
 use Rattle.std.proofs.Common.{◌≡◌, ◌-◌, ◌∙◌, ap, sym, arith, cond, min, rules, ℕ, Bool}
 use Rattle.bp_core.specs.Acting.{Diary}
-use Rattle.bp_core.specs.Callers.{has_left, left_of}
+use Rattle.bp_core.specs.Callers.{greatest_caller, has_left, left_of}
 use Rattle.bp_core.specs.Roll.{is_gone}
 use Rattle.bp_core.proofs.Standings.{gone_has_left, left_of_fewer, left_step}
 use Rattle.bp_core.proofs.book.Book.left.Goals as goal
@@ -19,7 +19,7 @@ loop-caller-preserved c =
 pub returns : goal.returns
 returns c =
     let H = c.args.self.now.history in
-    let most_is : c.min-most.result ≡ min c.args.sessions 63 = search rules in
+    let most_is : c.min-most.result ≡ min c.args.sessions greatest_caller = search rules in
     let last : c.loop-caller.caller - 1 ≡ c.min-most.result = omega arith in
     c.loop-caller.invariant.counted ∙ ap (left_of H) last ∙ ap (λ (b : Diary). left_of b.history c.min-most.result) (sym c.self.view_is)
     ∙ left_of_fewer _ _ c.min-most.result c.args.sessions c.self.invariant.legal most_is ∙ ap (λ (b : Diary). left_of b.history c.args.sessions) c.self.view_is

@@ -7,6 +7,7 @@
 mod cells;
 mod counting;
 mod dates;
+pub mod law;
 mod nights;
 mod ready;
 mod stays;

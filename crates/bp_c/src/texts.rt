@@ -8,9 +8,9 @@ use std::alloc::Global;
 
 /// Checks the certificate against the problem, as `bidprice check` does with files of these texts.
 ///
-/// The answer is the command's status, and the text that it writes stands at the front of the buffer; `written` is its
-/// length. It is 6 without memory, and then nothing is written; 8 where the buffer is too short, and then only `written`
-/// is, with the length that is needed. So it is of every call with texts.
+/// The answer is the command's status, and the text that it writes stands at the front of the buffer; `written` is
+/// its length. It is 6 without memory, and then nothing is written; 8 where the buffer is too short, and then only
+/// `written` is, with the length that is needed. So it is of every call with texts.
 #[unsafe(no_mangle)]
 pub extern "C" fn bidprice_check(
     alloc: Global,
@@ -87,8 +87,8 @@ pub extern "C" fn bidprice_scenarios(
     reply_to_two(alloc, &task, problem, changes, answer, written)
 }
 
-/// Writes the sheet of the problem, as `bidprice sheet` does with a file of this text: the bands of each night, and what
-/// a stay of each length has to pay.
+/// Writes the sheet of the problem, as `bidprice sheet` does with a file of this text: the bands of each night, and
+/// what a stay of each length has to pay.
 #[unsafe(no_mangle)]
 pub extern "C" fn bidprice_sheet(
     alloc: Global,

@@ -58,9 +58,10 @@ fn stopped(stop: Stop) -> Result<End, Memory>
 pub fn end_of<S: Shelf>(alloc: Global, task: &Task<'_>, shelf: &mut S) -> Result<End, Memory>
     requires plain { IsPlainTask (asked task.now) }
     requires numbers { HasDemoNumbers (asked task.now) }
-    ensures end { IfOk result (HasTaskEnd (asked task.now) (over S.held S.faults S.fetches S.last S.steady shelf.old shelf.new)) }
-    ensures unfailing { S.steady shelf.old → (words : List Word) → Asks words (asked task.now) → HoldsAll words (S.held shelf.old)
-        → IfOk result (λ end. end_status end ≢ Fault) }
+    ensures end { IfOk result
+        (HasTaskEnd (asked task.now) (over S.held S.faults S.fetches S.last S.steady shelf.old shelf.new)) }
+    ensures unfailing { S.steady shelf.old → (words : List Word) → Asks words (asked task.now)
+        → HoldsAll words (S.held shelf.old) → IfOk result (λ end. end_status end ≢ Fault) }
     ensures plain { IfOk result IsPlainEnd }
 {
     match commands::answer(alloc, shelf, task) {

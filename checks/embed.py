@@ -1,10 +1,10 @@
 #!/usr/bin/env python3
 """Compares the calls of the library for C, and the Python module over it, with the program's commands, byte for byte.
 
-The library is built as it ships, by both of the kit's compilers. The calls answer the examples, random problems, spoiled
-texts and empty ones, each with buffers too short by one and too long; then they run under the address sanitizer and
-under valgrind, and with each request for memory refused in turn. Wants the kit's `rt` and gcc; valgrind and numpy where
-they are there.
+The library is built as it ships, by both of the kit's compilers. The calls answer the examples, random problems,
+spoiled texts and empty ones, each with buffers too short by one and too long; then they run under the address sanitizer
+and under valgrind, and with each request for memory refused in turn. The module is installed by pip, and the script
+that draws the spread of prices is run. Wants the kit's `rt` and gcc; valgrind, numpy and matplotlib where they are there.
 
     checks/embed.py [PROBLEMS]      how many random problems, 1000 where none is said
 """
@@ -205,6 +205,39 @@ def example_program(tally, name, folder, library):
         tally.holds(f"{name}, the example with the {kind} library", status == 0 and said and said.decode() in page, said)
 
 
+def check_install(tally, folder, library):
+    """Counts one check for each Python that has pip: the module is installed by it, and solves without the repository."""
+    source = folder / "python"
+    shutil.copytree(TOP / "python", source, ignore=shutil.ignore_patterns("__pycache__", "libbidprice.so"))
+    shutil.copy(library / "libbidprice.so", source / "bidprice")
+    bare = {name: value for name, value in os.environ.items() if name not in ("BIDPRICE_LIBRARY", "PYTHONPATH")}
+    stays = "[(0, 2, 100, 3), (1, 3, 150, 1), (0, 1, 60, 1), (2, 3, 40, 5)]"
+    asked = f"import bidprice; print(bidprice.solve([2, 1, 2], {stays}), end='')"
+    wanted = (0, (EXAMPLE / "certificate").read_bytes())
+    for number, python in enumerate(dict.fromkeys(PYTHONS)):
+        if not Path(python).exists() or ran([python, "-m", "pip", "--version"])[0] != 0:
+            tally.skip(f"the module installed for {python}", "it has no pip")
+            continue
+        target = folder / f"installed{number}"
+        words = [python, "-m", "pip", "install", "-q", "--no-index", "--no-build-isolation", "--target", target, source]
+        installed = subprocess.run([str(word) for word in words], capture_output=True, text=True)
+        found = ran([python, "-c", asked], cwd=folder, env={**bare, "PYTHONPATH": str(target)})
+        tally.holds(f"the module installed for {python}", found == wanted, f"{found!r}, {installed.stderr[-500:]}")
+
+
+def check_spread(tally, folder, library):
+    """Counts one check: the script of a thousand draws solves the season and draws its picture."""
+    names = [TOP / "examples" / "season" / name for name in ("hotel.toml", "stays.csv", "forecast.csv", "bookings.csv")]
+    for python in dict.fromkeys(PYTHONS):
+        if Path(python).exists() and ran([python, "-c", "import numpy, matplotlib"])[0] == 0:
+            words = [python, TOP / "examples" / "embed" / "spread.py", *names, folder / "spread"]
+            status, said = ran(words, env={**os.environ, "BIDPRICE_LIBRARY": str(library / "libbidprice.so")})
+            drawn = all((folder / f"spread.{kind}").exists() for kind in ("png", "svg"))
+            tally.holds("the spread of a season", status == 0 and drawn and said.startswith(b"value "), said)
+            return
+    tally.skip("the spread of a season", "no Python here has numpy and matplotlib")
+
+
 def largest_cases(cases, folder):
     """Of each call one case, with the largest problem where the call has one of its own."""
     largest = max((case for case in cases if case.problem and case.status == 0), key=lambda case: len(case.texts[0]))
@@ -247,6 +280,8 @@ def main():
         few = cases[: len(example_cases())] + chance.sample(cases, min(SLOW, len(cases)))
         for name, options in COMPILERS:
             check_library(tally, name, options, cases, few, folder)
+        check_install(tally, folder, folder / COMPILERS[0][0])
+        check_spread(tally, folder, folder / COMPILERS[0][0])
     tally.end()
 
 

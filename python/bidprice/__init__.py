@@ -12,7 +12,7 @@ from __future__ import annotations
 import array
 import ctypes
 import os
-from ctypes import POINTER, addressof, byref, c_char, c_char_p, c_size_t, c_uint32, c_uint64, c_void_p
+from ctypes import POINTER, addressof, byref, c_char, c_char_p, c_size_t, c_uint32, c_uint64, c_void_p, string_at
 from pathlib import Path
 from typing import Iterable, List, NamedTuple, Optional, Sequence, Tuple
 
@@ -210,7 +210,7 @@ def _text(name: str, size: int, *given) -> Answer:
         size = written.value
     if status == 6:
         raise NoMemory()
-    return Answer(status, buffer.raw[: written.value])
+    return Answer(status, string_at(buffer, written.value))
 
 
 def _accepted(answer: Answer) -> Answer:
@@ -246,7 +246,10 @@ def judge(problem: bytes, journal: bytes) -> Answer:
 
 def scenarios(problem: bytes, changes: bytes) -> bytes:
     """The optimum and the least prices of the problem after each list of changes, a line each."""
-    return _accepted(_text("scenarios", 1 << 16, problem, changes)).text
+    # A price has at most ten digits, so the lines need no more room than this, and nothing is asked for twice.
+    nights = min(problem.count(b" ", 0, problem.find(b"\nstays")), 400)
+    room = 128 + changes.count(b"scenario\n") * (128 + 11 * nights)
+    return _accepted(_text("scenarios", room, problem, changes)).text
 
 
 def scenarios_text(lists: Iterable[Iterable[Tuple]]) -> bytes:

@@ -3,13 +3,13 @@
 
     bench/embed.py
 
-It wants the kit's `rt` and gcc, and numpy for the calls with arrays (run it by /usr/bin/python3 where that has it). The
-yardsticks are scipy's linprog (HiGHS) and networkx's network simplex; one that is not installed is left out, and said to
-be. All values must be equal whole numbers. valgrind counts the instructions of a call and of the cold solve in it,
-where it is installed. It fails where a call takes more than 1.05 times as many as the solve, where the fastest call from
-Python takes more than 1.1 times the fastest from C on a year, where a thousand cold solves of 30 nights and 200 stays
-are fewer than 20 times as many a second by the call as by the command, or where a thousand what-ifs of a year by the
-call of scenarios are fewer than 20 times as many a second as cold solves.
+It wants the kit's `rt` and gcc, and numpy for the calls with its arrays (run it by /usr/bin/python3 where that has it).
+The yardsticks are scipy's linprog (HiGHS) and networkx's network simplex; one that is not installed is left out, and
+said to be. All values must be equal whole numbers. valgrind counts the instructions of a call and of the cold solve in
+it, where it is installed. It fails where a call takes more than 1.05 times as many as the solve, where the fastest call
+from Python takes more than 1.1 times the fastest from C on a year, where a thousand cold solves of 30 nights and 200
+stays are fewer than 20 times as many a second by the call as by the command, or where a thousand what-ifs of a year by
+the call of scenarios are fewer than 20 times as many a second as cold solves.
 """
 import os
 import re
@@ -50,7 +50,8 @@ def columns_of(bidprice, rooms, rows):
     if np is None:
         return [array("Q", rooms), *(array(code, column) for code, column in zip("IIQQ", zip(*rows)))]
     table = np.array(rows, dtype=np.uint64)
-    return [np.array(rooms, np.uint64), *(table[:, k].astype(np.uint32) for k in (0, 1)), *(table[:, k].copy() for k in (2, 3))]
+    nights = [table[:, k].astype(np.uint32) for k in (0, 1)]
+    return [np.array(rooms, np.uint64), *nights, table[:, 2].copy(), table[:, 3].copy()]
 
 
 def by_linprog(rooms, rows):
@@ -98,7 +99,8 @@ def time_year(bidprice, calls, folder):
     python, certificate = best(lambda: bidprice.solve_columns(*columns), 9)
     text, _ = best(lambda: bidprice.solve_text(path.read_bytes()), 5)
     process, _ = best(lambda: subprocess.run([program(), "solve", path], capture_output=True, check=True), 5)
-    print(f"365 nights, 3,000 stays: from C {c:.2f} ms, from Python {python:.2f}, by texts {text:.2f}, by the command {process:.2f}")
+    print(f"365 nights, 3,000 stays: from C {c:.2f} ms, from Python {python:.2f}, by texts {text:.2f}, "
+          f"by the command {process:.2f}")
     yardsticks = [("linprog (HiGHS)", by_linprog(rooms, rows), 3)]
     yardsticks.append(("network simplex of networkx", by_networkx(rooms, rows), 1))
     for name, call, runs in yardsticks:
@@ -163,7 +165,8 @@ def time_what_ifs(bidprice, solve):
     lists = [[("demand", draw * 7 % len(rows), draw % 20)] for draw in range(SOLVES)]
     problem, changes = bidprice.problem_text(rooms, rows), bidprice.scenarios_text(lists)
     taken, _ = best(lambda: bidprice.scenarios(problem, changes), 3)
-    print(f"{SOLVES} what-ifs of the year: {taken:.1f} ms, {solve * SOLVES / taken:.1f} times as many a second as cold solves")
+    print(f"{SOLVES} what-ifs of the year: {taken:.1f} ms, {solve * SOLVES / taken:.1f} times as many a second as cold "
+          "solves")
     return solve * SOLVES / taken
 
 

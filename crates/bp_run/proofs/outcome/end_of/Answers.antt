@@ -9,11 +9,11 @@ pub returns-in-Ok-clause-unfailing : goal.returns-in-Ok-clause-unfailing
 returns-in-Ok-clause-unfailing g c = λ steady words asks holds. answer_is_no_fault c.in-Ok.answer
 
 pub returns-in-Err-clause-end : goal.returns-in-Err-clause-end
-returns-in-Err-clause-end g c = stopped_ends _ (asked c.args.task.now) c.in-Err.stop c.stopped.result c.in-Err.ensures c.stopped.ensures
+returns-in-Err-clause-end g c = stopped_ends _ (asked c.args.task.now) c.in-Err.stop c.stopped.result c.in-Err.ensures.concludes c.stopped.ensures
 
 pub returns-in-Err-clause-unfailing : goal.returns-in-Err-clause-unfailing
 returns-in-Err-clause-unfailing g c = λ steady words asks holds.
-    stopped_unfailing words _ (asked c.args.task.now) asks c.in-Err.stop c.stopped.result c.in-Err.ensures c.stopped.ensures steady holds
+    stopped_unfailing words _ (asked c.args.task.now) asks c.in-Err.stop c.stopped.result c.in-Err.ensures.concludes c.stopped.ensures steady holds
 
 pub returns-in-Err-clause-plain : goal.returns-in-Err-clause-plain
 returns-in-Err-clause-plain g c = stopped_plain c.in-Err.stop c.stopped.result c.stopped.ensures

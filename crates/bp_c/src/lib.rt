@@ -2,16 +2,19 @@
 #![tactic(auto)]
 
 mod buffer;
+mod group;
 mod least;
-mod line;
 mod numbers;
 mod refusal;
-mod scenarios;
+mod reply;
+mod shelf;
 #[cfg(test)]
 mod tests;
 mod texts;
 
+pub use group::bidprice_group;
 pub use numbers::bidprice_solve_numbers;
 pub use refusal::Refusal;
-pub use scenarios::bidprice_scenarios;
-pub use texts::{bidprice_check, bidprice_group, bidprice_judge, bidprice_sheet, bidprice_solve};
+pub use texts::{
+    bidprice_check, bidprice_judge, bidprice_scenarios, bidprice_sheet, bidprice_solve,
+};

@@ -130,7 +130,7 @@ plain_answer_number (Ran ran) plain = absurd plain
 plain_answer_number (Sheeted text) plain = omega arith
 plain_answer_number (Demonstrated text) plain = omega arith
 plain_answer_number (Reported answer) plain = let least = report_number answer in omega arith
-plain_answer_number (Foreseen outcomes) plain = absurd plain
+plain_answer_number (Foreseen outcomes) plain = omega arith
 plain_answer_number (RanAll runs) plain = absurd plain
 
 -- so no answer is a fault
@@ -291,8 +291,8 @@ threads_task (first ∷ rest) (sheet p) may asks =
     let is : first ≡ codes "sheet" = cc in absurd (threads_apart first (codes "sheet") is (λ e. cc) (λ e. cc) (λ e. cc) may)
 threads_task (first ∷ rest) (portfolio list workers) may asks = inr (inr (list, workers, refl))
 
--- and those that run in one thread
-plain_task : (words : List Word) (task : Task) → (MayStartThreads words → ⊥) → Asks words task → IsPlainTask task
+-- and those that one thread can do
+pub plain_task : (words : List Word) (task : Task) → (MayStartThreads words → ⊥) → Asks words task → IsPlainTask task
 plain_task words (check p c) single asks = tt
 plain_task words (solve p) single asks = tt
 plain_task words (group p from to rooms) single asks = tt
@@ -301,7 +301,7 @@ plain_task words (desk names workers) single asks = single (subst MayStartThread
 plain_task words (replay names) single asks = tt
 plain_task words (report names) single asks = tt
 plain_task words (demo seed nights rooms stays) single asks = tt
-plain_task words (scenarios p changes) single asks = single (subst MayStartThreads (sym asks.0) (inr (inl refl)))
+plain_task words (scenarios p changes) single asks = tt
 plain_task words (sheet p) single asks = tt
 plain_task words (portfolio list workers) single asks = single (subst MayStartThreads (sym asks.words_are) (inr (inr refl)))
 
@@ -329,17 +329,28 @@ demo_numbers words (scenarios p changes) asks = tt
 demo_numbers words (sheet p) asks = tt
 demo_numbers words (portfolio list workers) asks = tt
 
--- words that ask for no task that runs so are not served
-pub not_plain_task : TasksAreUnique → (words : List Word) (task : Task) → (MayStartThreads words → ⊥) → Asks words task → (IsPlainTask task → ⊥) → AreServed words → ⊥
-not_plain_task unique words task single asks not_plain (t, asks_t) =
-    not_plain (subst IsPlainTask (unique words t task asks_t asks) (plain_task words t single asks_t))
-
+-- words that ask for no task that may start threads are not served, where their command may
 pub not_threads_task : TasksAreUnique → (words : List Word) (task : Task) → MayStartThreads words → Asks words task → (IsDesk task → ⊥) → (AreScenarios task → ⊥) → (IsPortfolio task → ⊥) → AreServed words → ⊥
 not_threads_task unique words task may asks no_desk no_scenarios no_portfolio (t, asks_t) = elim (threads_task words t may asks_t) [
   | inl is ↦ no_desk (subst IsDesk (unique words t task asks_t asks) is)
   | inr (inl are) ↦ no_scenarios (subst AreScenarios (unique words t task asks_t asks) are)
   | inr (inr is) ↦ no_portfolio (subst IsPortfolio (unique words t task asks_t asks) is)
 ]
+
+-- a command that was stopped at a file, and the end of each line that asks for its task
+pub stopped_ends : {E : Type 0} (shelf : Fetches) (task : Task) (stop : Stop) (result : Result End E) → IsStopped shelf (command_of task) stop → HasStopped stop result
+    → IfOk result (HasTaskEnd task shelf)
+stopped_ends shelf task stops.Memory (Ok end) is e = absurd (let no : false ≡ true = e in cc)
+stopped_ends shelf task stops.Memory (Err x) is e = tt
+stopped_ends shelf task (stops.Fault k) result is e = rw e (λ words asks. (task, asks, is.stops))
+stopped_ends shelf task (stops.Refused k cause) result is e = rw e (λ words asks. (task, asks, is.stops))
+
+-- so it is one that one thread comes to
+pub stopped_plain : {E : Type 0} (stop : Stop) (result : Result End E) → HasStopped stop result → IfOk result IsPlainEnd
+stopped_plain stops.Memory (Ok end) e = absurd (let no : false ≡ true = e in cc)
+stopped_plain stops.Memory (Err x) e = tt
+stopped_plain (stops.Fault k) result e = rw e tt
+stopped_plain (stops.Refused k cause) result e = rw e tt
 
 -- a command that was stopped at a file, and the end of its call
 module _ {E : Type 0} (words : List Word) (shelf : Fetches) (task : Task) (asks : Asks words task) where
@@ -355,12 +366,6 @@ module _ {E : Type 0} (words : List Word) (shelf : Fetches) (task : Task) (asks 
   stopped_unfailing stops.Memory (Err x) is e steady holds = tt
   stopped_unfailing (stops.Fault k) result is e steady holds = absurd (is.unfailing steady holds.files holds.told (holds.each task asks) tt)
   stopped_unfailing (stops.Refused k cause) result is e steady holds = rw e (λ same. cc)
-
-  pub stopped_plain : (stop : Stop) (result : Result End E) → HasStopped stop result → IfOk result IsPlainEnd
-  stopped_plain stops.Memory (Ok end) e = absurd (let no : false ≡ true = e in cc)
-  stopped_plain stops.Memory (Err x) e = tt
-  stopped_plain (stops.Fault k) result e = rw e tt
-  stopped_plain (stops.Refused k cause) result e = rw e tt
 
 -- the line of a desk, and the end of its call
 module _ (words : List Word) (shelf : Fetches) (task : Task) (line : DeskLine) (asks : Asks words task) (is : IsDeskOf task line) where

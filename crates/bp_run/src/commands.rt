@@ -1,5 +1,5 @@
 //! The commands, one file each: its answer, and the status and the text of the answer.
-ghost use Rattle.std.specs.Prelude.{◌≡◌, ◌↔◌, IsTrue, IfOk};
+ghost use Rattle.std.specs.Prelude.{◌≡◌, IfOk};
 ghost use Rattle.bp_cli.specs.Asked.{asked};
 ghost use Rattle.bp_run.specs.Served.{IsPlainTask};
 ghost use Rattle.bp_run.specs.Demo.{HasDemoNumbers};
@@ -31,23 +31,6 @@ pub mod report;
 pub mod scenarios;
 pub mod sheet;
 pub mod solve;
-
-/// Whether the task's command runs in one thread.
-pub fn is_plain(task: &Task<'_>) -> bool
-    ensures { IsTrue result ↔ IsPlainTask (asked task.now) }
-{
-    matches!(
-        task,
-        Task::Check { .. }
-            | Task::Solve { .. }
-            | Task::Group { .. }
-            | Task::Judge { .. }
-            | Task::Replay { .. }
-            | Task::Report { .. }
-            | Task::Sheet { .. }
-            | Task::Demo { .. }
-    )
-}
 
 /// The names of a hotel's four files.
 pub fn hotel_files<'a>(
@@ -161,7 +144,13 @@ pub fn answer<S: Shelf>(alloc: Global, shelf: &mut S, task: &Task<'_>) -> Result
         } => {
             Ok(Answer::Demonstrated(demo::answer(alloc, shelf, *seed, *nights, *rooms, *stays)?))
         }
-        Task::Desk { .. } | Task::Scenarios { .. } | Task::Portfolio { .. } => unreachable!(),
+        Task::Scenarios { problem, changes } => Ok(Answer::Foreseen(scenarios::answer_alone(
+            alloc,
+            shelf,
+            problem.text(),
+            changes.text(),
+        )?)),
+        Task::Desk { .. } | Task::Portfolio { .. } => unreachable!(),
     }
 }
 

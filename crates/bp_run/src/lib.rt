@@ -1,7 +1,6 @@
 //! The whole program: from words and files to a status and a text.
 #![tactic(auto)]
 
-mod alone;
 mod commands;
 mod end;
 mod files;
@@ -17,7 +16,6 @@ mod threads;
 mod top;
 mod unread;
 
-pub use alone::run_scenarios;
 pub use commands::group::GroupAnswer;
 pub use commands::judge::Ruling;
 pub use commands::portfolio::Runs;
@@ -25,4 +23,4 @@ pub use commands::report::ReportAnswer;
 pub use commands::scenarios::Outcomes;
 pub use end::{Answer, Cause, End, FileError};
 pub use status::Status;
-pub use top::{run, run_plain};
+pub use top::{run, run_no_task, run_plain, run_task};

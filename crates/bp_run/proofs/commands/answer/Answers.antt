@@ -49,3 +49,8 @@ answer-requires-in-Demo g c = let P : ReadTask → Type 0 = λ t. HasDemoNumbers
 pub returns-in_ok-answer-in-Demo-clause-concludes : goal.returns-in_ok-answer-in-Demo-clause-concludes
 returns-in_ok-answer-in-Demo-clause-concludes g c =
     rw c.in-Demo.is (record { own = c.in_ok-answer-in-Demo.field-0; is = refl; answered = c.in_ok-answer-in-Demo.ensures })
+
+pub returns-in_ok-answer_alone-in-Scenarios-clause-concludes : goal.returns-in_ok-answer_alone-in-Scenarios-clause-concludes
+returns-in_ok-answer_alone-in-Scenarios-clause-concludes g c =
+    rw (c.in-Scenarios.is, sym c.text-in-Scenarios.ensures, sym c.text-in-Scenarios-2.ensures)
+    (record { own = c.in_ok-answer_alone-in-Scenarios.field-0; is = refl; answered = c.in_ok-answer_alone-in-Scenarios.ensures })

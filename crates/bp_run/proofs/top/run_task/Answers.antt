@@ -1,9 +1,8 @@
 use Rattle.std.proofs.Common.{arith}
-use Rattle.bp_run.proofs.EndLemmas.{serves}
-use Rattle.bp_run.proofs.AloneLemmas.{done_known}
+use Rattle.bp_run.proofs.EndLemmas.{serves, plain_known}
 use Rattle.bp_run.proofs.CompleteLemmas.{complete, holds_all}
 use Rattle.bp_run.proofs.SoundCommands.{AreTextsReadOneWay, sound}
-use Rattle.bp_run.proofs.alone.run_scenarios.Goals as goal
+use Rattle.bp_run.proofs.top.run_task.Goals as goal
 
 pub returns-in-Ok-clause-serves : goal.returns-in-Ok-clause-serves
 returns-in-Ok-clause-serves g c = λ words asks.
@@ -15,4 +14,4 @@ returns-in-Ok-clause-serves g c = λ words asks.
     c.finish.result _ c.number.ensures c.finish.ensures
 
 pub returns-in-Ok-clause-known : goal.returns-in-Ok-clause-known
-returns-in-Ok-clause-known g c = let number = c.number.ensures in let small = done_known _ c.in-Ok.end c.finish.result c.in-Ok.ensures.answered c.finish.ensures in omega arith
+returns-in-Ok-clause-known g c = let number = c.number.ensures in let small = plain_known _ c.in-Ok.end c.finish.result c.in-Ok.ensures.plain c.finish.ensures in omega arith

@@ -1,11 +1,11 @@
 //! What the scripts of bench/ time on one thread, and scenarios on several. The first word chooses what is run, the others
 //! are its loads; each line that it prints has the nanoseconds that were taken, and a number that does not depend on them.
 //!
-//!     bp_bench restarts ROUNDS        a cold solve, then so many bookings, changes of a rate and quotes of groups
-//!     bp_bench scenarios LISTS        so many lists of five changes
-//!     bp_bench spans NIGHTS CALLS     so many bookings of a ledger, on spans of so many nights to 400
-//!     bp_bench book BOOKS BATCHES     so many batches of 200 calls and a vector, on each of so many books
-//!     bp_bench tiny                   a little of each, and only the numbers that do not depend on time
+//!     bp_bench restarts ROUNDS          a cold solve, then so many bookings, changes of a rate and quotes of groups
+//!     bp_bench scenarios LISTS          so many lists of five changes
+//!     bp_bench spans LEAST MOST VISITS  so many visits to a ledger, on spans of so many nights at least and at most
+//!     bp_bench book BOOKS BATCHES       so many batches of 200 calls and a vector, on each of so many books
+//!     bp_bench tiny                     a little of each, and only the numbers that do not depend on time
 #![tactic(auto)]
 
 mod busy;
@@ -56,7 +56,7 @@ fn run<R: Clock + Threads + Sync>(
     match kind {
         "restarts" => restarts::run(rt, alloc, load(words, 1)?),
         "scenarios" => scenarios::run(rt, alloc, load(words, 1)?),
-        "spans" => spans::run(rt, alloc, load(words, 1)?, load(words, 2)?),
+        "spans" => spans::run(rt, alloc, load(words, 1)?, load(words, 2)?, load(words, 3)?),
         "book" => busy::run(rt, alloc, load(words, 1)?, load(words, 2)?),
         _ => Err(Fail::new("restarts, scenarios, spans, book or tiny")),
     }
@@ -66,7 +66,7 @@ fn run<R: Clock + Threads + Sync>(
 fn run_tiny<R: Clock + Threads + Sync + Print>(rt: &R, alloc: Global) -> Result<(), Fail> {
     print_counts(rt, &restarts::run(rt, alloc, 2)?)?;
     print_counts(rt, &scenarios::run(rt, alloc, 3)?)?;
-    print_counts(rt, &spans::run(rt, alloc, 100, 50)?)?;
+    print_counts(rt, &spans::run(rt, alloc, 100, 400, 50)?)?;
     print_counts(rt, &busy::run(rt, alloc, 1, 2)?)
 }
 

@@ -60,12 +60,12 @@ fn visit(ledger: &mut Ledger, span: Span, back: bool) -> bool
     took
 }
 
-/// A span of so many nights at least.
-fn draw_span(draws: &mut WideDraws, least: u32) -> Span
-    requires { (1 ≤ least) × (least ≤ NIGHTS) }
+/// A span of so many nights at least and at most.
+fn draw_span(draws: &mut WideDraws, least: u32, most: u32) -> Span
+    requires { (1 ≤ least) × (least ≤ most) × (most ≤ NIGHTS) }
     ensures { IsSpanWithin NIGHTS result }
 {
-    let length = least + draws.below(u64::from(NIGHTS - least + 1)) as u32;
+    let length = least + draws.below(u64::from(most - least + 1)) as u32;
     let from = draws.below(u64::from(NIGHTS - length + 1)) as u32;
     Span {
         from,
@@ -74,34 +74,35 @@ fn draw_span(draws: &mut WideDraws, least: u32) -> Span
 }
 
 /// Makes so many visits; how many found a room on each night.
-fn visit_all(ledger: &mut Ledger, draws: &mut WideDraws, least: u32, calls: u32) -> u128
+fn visit_all(ledger: &mut Ledger, least: u32, most: u32, visits: u32) -> u128
     requires nights { length ledger.old.rooms ≡ NIGHTS }
-    requires least { (1 ≤ least) × (least ≤ NIGHTS) }
+    requires spans { (1 ≤ least) × (least ≤ most) × (most ≤ NIGHTS) }
 {
+    let mut draws = WideDraws { state: 1 };
     let mut found: u128 = 0;
-    for call in 0..calls {
-        let span = draw_span(draws, least);
-        if visit(ledger, span, call % 2 == 1) {
+    for number in 0..visits {
+        let span = draw_span(&mut draws, least, most);
+        if visit(ledger, span, number % 2 == 1) {
             found = found.saturating_add(1);
         }
     }
     found
 }
 
-/// Times so many visits on spans of so many nights at least.
+/// Times so many visits on spans of so many nights at least and at most.
 pub(crate) fn run<C: Clock>(
     clock: &C,
     alloc: Global,
     least: u32,
-    calls: u32,
+    most: u32,
+    visits: u32,
 ) -> Result<Vec<Timed>, Fail> {
-    if least < 1 || least > NIGHTS {
+    if least < 1 || most < least || most > NIGHTS {
         return Err(Fail::new("1 to 400 nights"));
     }
     let mut ledger = opened(alloc)?;
-    let mut draws = WideDraws { state: 1 };
     let start = Instant::now(clock)?;
-    let found = visit_all(&mut ledger, &mut draws, least, calls);
+    let found = visit_all(&mut ledger, least, most, visits);
     let nanoseconds = since(clock, start)?;
     let mut lines = Vec::new(alloc);
     lines.push(Timed {

@@ -41,14 +41,22 @@ fn resize(night: u32, pick: u64) -> Command {
     } else {
         9_000 + pick % 1_001
     };
-    let rooms = if is_dear(night) || is_free(night) { 0 } else { open };
+    let rooms = if is_dear(night) || is_free(night) {
+        0
+    } else {
+        open
+    };
     Command::Resize { night, rooms }
 }
 
 fn group(night: u32, rooms: u64, amount: u64) -> Command
     requires { night < NIGHTS }
 {
-    let to = if night + 1 < NIGHTS { night + 2 } else { NIGHTS };
+    let to = if night + 1 < NIGHTS {
+        night + 2
+    } else {
+        NIGHTS
+    };
     Command::Group {
         span: Span { from: night, to },
         rooms,

@@ -114,7 +114,11 @@ pub(crate) fn sales(alloc: Global, instance: &Instance) -> Result<(u128, Vec<u64
     let mut sell = Vec::new(alloc);
     for number in 0..instance.stays() {
         let stay = instance.stay(number);
-        let sold = if covers_dear(stay.span) { 0 } else { stay.forecast };
+        let sold = if covers_dear(stay.span) {
+            0
+        } else {
+            stay.forecast
+        };
         let worth = u128::from(stay.rate).saturating_mul(u128::from(sold));
         value = value.saturating_add(worth);
         sell.push(sold)?;

@@ -139,12 +139,7 @@ fn reprice_all<L: Ledger>(
 }
 
 /// What ten rooms on the nights of a stay cost; nothing, where a night has fewer.
-fn displacement<L: Ledger>(
-    alloc: Global,
-    solver: &Solver,
-    span: Span,
-    steps: &mut Steps<L>,
-) -> u128
+fn displacement<L: Ledger>(alloc: Global, solver: &Solver, span: Span, steps: &mut Steps<L>) -> u128
     requires { IsSettled solver.now }
 {
     if span.from >= span.to || span.to > solver.nights() {

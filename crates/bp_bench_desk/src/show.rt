@@ -137,7 +137,11 @@ pub(crate) fn run<R: Clock + Threads + Wait + Sync>(
                 rt,
                 &mut viewers,
                 16,
-                &|_, viewer: &mut Viewer| viewer.rate = rate_of(rt, &mut viewer.view, milliseconds).unwrap_or(0),
+                &|_, viewer: &mut Viewer| viewer.rate = rate_of(
+                    rt,
+                    &mut viewer.view,
+                    milliseconds,
+                ).unwrap_or(0),
             )
         },
     );

@@ -137,14 +137,14 @@ fn added(sum: u64, answer: Option<Answer>) -> u64 {
 
 /// A busy desk in the midst of its calls.
 #[derive(Drop)]
-struct Run {
+struct Shift {
     draws: WideDraws,
     /// What the calls and publications took so far, in nanoseconds, and the sum over their answers.
     taken: u128,
     sum: u64,
 }
 
-impl Run {
+impl Shift {
     fn call_all(&mut self, desk: &mut Desk, stays: &[Stay]) {
         for _ in 0..BATCH {
             let caller = self.draws.below(u64::from(CALLERS)) as u32;
@@ -199,19 +199,19 @@ pub(crate) fn run<C: Clock>(
     batches: u32,
 ) -> Result<Vec<Timed>, Fail> {
     let hotel = busy_hotel(alloc)?;
-    let mut run = Run {
+    let mut shift = Shift {
         draws: WideDraws { state: 1 },
         taken: 0,
         sum: 0,
     };
     for _ in 0..books {
-        run.book(clock, alloc, &hotel, batches)?;
+        shift.book(clock, alloc, &hotel, batches)?;
     }
     let mut lines = Vec::new(alloc);
     lines.push(Timed {
         name: "book",
-        nanoseconds: run.taken,
-        count: u128::from(run.sum),
+        nanoseconds: shift.taken,
+        count: u128::from(shift.sum),
     })?;
     Ok(lines)
 }

@@ -1,4 +1,5 @@
-//! A busy hotel of 400 nights and 4,000 stays. On every twentieth night it is closed at no price, and ten nights later at
+//! A busy hotel of 400 nights and 4,000 stays. On every twentieth night it is closed at no price, and ten nights later
+//! at
 //! the greatest price; the other nights have rooms for all guests, and no price.
 use bp_types::limits::MOST_PRICE;
 use bp_types::{Instance, Limits, Memory, Span, Stay};

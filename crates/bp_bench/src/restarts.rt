@@ -1,4 +1,5 @@
-//! Restarts beside a cold solve: a booking is one room less on each night of a stay and one less in its forecast, with the
+//! Restarts beside a cold solve: a booking is one room less on each night of a stay and one less in its forecast, with
+//! the
 //! prices settled; a change is another rate of one stay; a group is ten rooms on the nights of a stay.
 ghost use Rattle.std.specs.Prelude.{◌≡◌, ◌<◌, length, IsTrue};
 ghost use Rattle.bp_types.specs.Spans.{IsSpanWithin};

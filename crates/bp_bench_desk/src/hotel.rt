@@ -114,7 +114,14 @@ pub(crate) fn narrow_hotel(alloc: Global) -> Result<Hotel, Memory> {
 
 /// A hotel's house. Two of them are the same.
 pub(crate) fn house(alloc: Global, hotel: &Hotel) -> Result<House, Fail>
-    ensures { IfOk result (λ h. h ≡ record { rooms = hotel.now.rooms.items; sold = hotel.now.sold.items; stays = hotel.now.stays.items; limits = hotel.now.limits }) }
+    ensures { IfOk result (λ h. h ≡
+        record {
+          rooms = hotel.now.rooms.items;
+          sold = hotel.now.sold.items;
+          stays = hotel.now.stays.items;
+          limits =
+              hotel.now.limits;
+        }) }
 {
     let rooms = Vec::from_slice(alloc, &hotel.rooms)?;
     let sold = Vec::from_slice(alloc, &hotel.sold)?;

@@ -14,7 +14,8 @@ use std::test::Fail;
 use std::thread::{Threads, for_each_mut};
 use std::time::{Clock, Instant};
 
-/// The loads: each desk is called so often, in equal parts by the threads. After so many changes without a new vector all
+/// The loads: each desk is called so often, in equal parts by the threads. After so many changes without a new vector
+/// all
 /// bookings are refused as Behind.
 #[derive(Clone, Copy, Drop)]
 pub(crate) struct Bookings {

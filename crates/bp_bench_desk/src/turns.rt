@@ -40,7 +40,8 @@ struct Worker {
 
 /// Adds entries until there are enough.
 fn work<R: Wait>(rt: &R, turn: &Turn<Log>, worker: &mut Worker, enough: usize)
-    requires { (worker.old.seat.lock ≡ turn.now) × (worker.old.seat.has_turn ≡ false) × (worker.old.seat.number ≡ worker.old.caller) }
+    requires { (worker.old.seat.lock ≡ turn.now) × (worker.old.seat.has_turn ≡ false) ×
+        (worker.old.seat.number ≡ worker.old.caller) }
 {
     for number in 0..u32::MAX {
         let mut log = turn.take(rt, &mut worker.seat);
@@ -59,7 +60,8 @@ fn work_all<R: Threads + Wait + Sync>(
     workers: &mut [Worker],
     enough: usize,
 )
-    requires { All (λ w. (w.seat.lock ≡ turn.now) × (w.seat.has_turn ≡ false) × (w.seat.number ≡ w.caller)) workers.old }
+    requires { All (λ w. (w.seat.lock ≡ turn.now) × (w.seat.has_turn ≡ false) ×
+        (w.seat.number ≡ w.caller)) workers.old }
 {
     let threads = workers.len().max(1);
     for_each_mut(
@@ -73,7 +75,8 @@ fn work_all<R: Threads + Wait + Sync>(
 /// A lock over an empty log, and the workers with the numbers below `threads`.
 fn hire(alloc: Global, threads: u32) -> Result<(Turn<Log>, Vec<Worker>), Memory>
     requires { threads ≤ 64 }
-    ensures { IfOk result (λ r. All (λ w. (w.seat.lock ≡ r.0) × (w.seat.has_turn ≡ false) × (w.seat.number ≡ w.caller)) r.1.items) }
+    ensures { IfOk result (λ r. All (λ w. (w.seat.lock ≡ r.0) × (w.seat.has_turn ≡ false) ×
+        (w.seat.number ≡ w.caller)) r.1.items) }
 {
     let pairs = Vec::new(alloc);
     let (turn, mut first) = Turn::new(alloc, Log { pairs })?;

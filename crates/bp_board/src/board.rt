@@ -30,7 +30,8 @@ impl Model for Board {
 
     ghost view = { λ b. record { position = b.position; certificate = b.certificate } };
 
-    ghost invariant = { λ b. HasPrices b.certificate × (length b.sums.items ≡ length b.certificate.prices + 1) × SumUp b.certificate.prices b.sums.items };
+    ghost invariant = { λ b. HasPrices b.certificate × (length b.sums.items ≡ length b.certificate.prices + 1) ×
+        SumUp b.certificate.prices b.sums.items };
 }
 
 impl Board {

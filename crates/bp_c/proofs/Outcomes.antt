@@ -10,7 +10,8 @@ use Rattle.bp_c.specs.Calls.{IsOutcomeOf, IsGiven, told}
 
 -- what was written to an empty sink is the text of the outcome
 outcome_of : (words : List Word) (before now : ShelfState) (out : Puts) (status : ℕ) (text : List ℕ)
-    → out.before.written ≡ Some [] → out.now.written ≡ Some text → Finishes words (record { before = told before; now = told now }) out status → IsOutcomeOf words before.files status text
+    → out.before.written ≡ Some [] → out.now.written ≡ Some text → Finishes words (record { before = told before; now = told now }) out status →
+    IsOutcomeOf words before.files status text
 outcome_of words before now out status text empty filled finishes =
     let grown : out.now.written ≡ Some ([] ++ finishes.text) = finishes.written.grown [] empty in
     let is : finishes.text ≡ text = (cc) in
@@ -31,5 +32,6 @@ pub given : (words : List Word) (before now : ShelfState) (out : Puts) (status :
     → IsGiven words before.files status text
 given words before now out status text empty filled steady sink holds few serves = record {
   known = status_known status few (serves.steady_shelf steady holds) (serves.steady_sink sink);
-  outcome = λ small. outcome_of words before now out status text empty filled (serves.done (λ five. omega (arith, small, five)) (λ six. omega (arith, small, six)));
+  outcome = λ small. outcome_of words before now out status text empty filled
+      (serves.done (λ five. omega (arith, small, five)) (λ six. omega (arith, small, six)));
 }

@@ -1,4 +1,21 @@
 //! The program's commands and its solver, as calls for programs in other languages.
+//!
+//! A problem of numbers, as C hands it over: three nights and four stays.
+//!
+//! ```
+//! let status = bidprice_solve_numbers(
+//!     rt.alloc(),
+//!     &[2, 1, 2],
+//!     &[0, 1, 0, 2],
+//!     &[2, 3, 1, 3],
+//!     &[100, 150, 60, 40],
+//!     &[3, 1, 1, 5],
+//!     &mut value,
+//!     &mut sell,
+//!     &mut prices,
+//!     &mut refused,
+//! );
+//! ```
 #![tactic(auto)]
 
 mod buffer;

@@ -1,4 +1,20 @@
-ghost use Rattle.std.specs.Prelude.{◌≡◌, ◌≢◌, ℕ, ◌+◌, ◌-◌, ◌*◌, ◌<◌, ◌≤◌, true, false, length, slice_index, All, IfOk, IsTrue};
+ghost use Rattle.std.specs.Prelude.{
+  ◌≡◌,
+  ◌≢◌,
+  ℕ,
+  ◌+◌,
+  ◌-◌,
+  ◌*◌,
+  ◌<◌,
+  ◌≤◌,
+  true,
+  false,
+  length,
+  slice_index,
+  All,
+  IfOk,
+  IsTrue,
+};
 ghost use Rattle.bp_types.specs.declared.change.Change.TheVariants.{Rooms, Demand, Rate};
 ghost use Rattle.bp_types.specs.Claim.{IsCertificateOf, IsLeastCertificate};
 ghost use Rattle.bp_types.specs.Optimum.{IsOptimum};
@@ -6,7 +22,17 @@ ghost use Rattle.bp_types.specs.Program.{stay_at};
 ghost use Rattle.bp_types.specs.Changes.{changed, Fits};
 ghost use Rattle.bp_residual.specs.Network.{Priced, greatest_rate, nodes};
 ghost use Rattle.bp_flow.specs.Solving.{Solving, priced};
-ghost use Rattle.bp_flow.specs.Solvers.{ColdSoFar, IsSolvedFlow, IsSolved, IsSolverOf, CountsSearches, CountsServed, CountsUpTo, difference, lack_at};
+ghost use Rattle.bp_flow.specs.Solvers.{
+  ColdSoFar,
+  IsSolvedFlow,
+  IsSolved,
+  IsSolverOf,
+  CountsSearches,
+  CountsServed,
+  CountsUpTo,
+  difference,
+  lack_at,
+};
 ghost use Rattle.bp_flow.specs.Rising.{repairs, rises, searches_from_nothing};
 ghost use Rattle.bp_flow.specs.Settled.{IsSettled, IsSolvable};
 
@@ -107,8 +133,11 @@ impl Solver {
         requires so_far { ColdSoFar instance.now night (priced self.old) }
         requires in_range { night < length instance.now.rooms }
         ensures so_far { ColdSoFar instance.now (night + 1) (priced self.new) }
-        ensures falls { repairs self.new.flow.program.rooms instance.now.rooms ≤ repairs self.old.flow.program.rooms instance.now.rooms }
-        ensures counted { CountsSearches steps.old steps.new self.old.served self.new.served (repairs self.old.flow.program.rooms instance.now.rooms - repairs self.new.flow.program.rooms instance.now.rooms) }
+        ensures falls { repairs self.new.flow.program.rooms instance.now.rooms ≤ repairs self.old.flow.program.rooms
+            instance.now.rooms }
+        ensures counted { CountsSearches steps.old steps.new self.old.served self.new.served
+            (repairs self.old.flow.program.rooms instance.now.rooms - repairs self.new.flow.program.rooms
+            instance.now.rooms) }
     {
         while self.rooms(night) != instance.rooms(night) {
             self.fill_shortage(instance, night, steps);
@@ -121,9 +150,14 @@ impl Solver {
         requires in_range { night < length instance.now.rooms }
         requires unlike { slice_index self.old.flow.program.rooms night ≢ slice_index instance.now.rooms night }
         ensures so_far { ColdSoFar instance.now night (priced self.new) }
-        ensures nearer { difference (slice_index self.new.flow.program.rooms night) (slice_index instance.now.rooms night) < difference (slice_index self.old.flow.program.rooms night) (slice_index instance.now.rooms night) }
-        ensures falls { repairs self.new.flow.program.rooms instance.now.rooms ≤ repairs self.old.flow.program.rooms instance.now.rooms }
-        ensures counted { CountsSearches steps.old steps.new self.old.served self.new.served (repairs self.old.flow.program.rooms instance.now.rooms - repairs self.new.flow.program.rooms instance.now.rooms) }
+        ensures nearer { difference (slice_index self.new.flow.program.rooms night)
+            (slice_index instance.now.rooms night) < difference (slice_index self.old.flow.program.rooms night)
+            (slice_index instance.now.rooms night) }
+        ensures falls { repairs self.new.flow.program.rooms instance.now.rooms ≤ repairs self.old.flow.program.rooms
+            instance.now.rooms }
+        ensures counted { CountsSearches steps.old steps.new self.old.served self.new.served
+            (repairs self.old.flow.program.rooms instance.now.rooms - repairs self.new.flow.program.rooms
+            instance.now.rooms) }
     {
         let up = self.rooms(night) < instance.rooms(night);
         let Shortage { to, units } = shortage_at(self, instance, up, night);
@@ -201,7 +235,8 @@ impl Solver {
         ensures program { self.new.flow.program ≡ changed self.old.flow.program (Demand stay value) }
         ensures solved { IsSolved self.new }
         ensures solvable { IsSolvable self.new.flow.program }
-        ensures counted { CountsSearches steps.old steps.new self.old.served self.new.served (difference (stay_at self.old.flow.program stay).forecast value) }
+        ensures counted { CountsSearches steps.old steps.new self.old.served self.new.served
+            (difference (stay_at self.old.flow.program stay).forecast value) }
     {
         law::solved_programs_are_solvable();
         reforecast(&mut self.flow, &mut self.scratch, stay, value, steps);
@@ -214,7 +249,9 @@ impl Solver {
     pub fn book(&mut self, span: Span, units: u64, stay: u32, value: u64) -> bool
         requires rooms { Fits self.old.flow.program (Rooms span false units) }
         requires stay { stay < length self.old.flow.program.stays }
-        ensures made { IsTrue result → self.new.flow.program ≡ changed (changed self.old.flow.program (Rooms span false units)) (Demand stay value) }
+        ensures made { IsTrue result →
+            self.new.flow.program ≡
+            changed (changed self.old.flow.program (Rooms span false units)) (Demand stay value) }
         ensures not_made { result ≡ false → self.new ≡ self.old }
         ensures solved { IsSolved self.new }
         ensures solvable { IsSolvable self.new.flow.program }
@@ -240,7 +277,8 @@ impl Solver {
         ensures program { self.new.flow.program ≡ changed self.old.flow.program (Rate stay value) }
         ensures solved { IsSolved self.new }
         ensures solvable { IsSolvable self.new.flow.program }
-        ensures counted { CountsSearches steps.old steps.new self.old.served self.new.served (2 * (stay_at self.old.flow.program stay).forecast) }
+        ensures counted { CountsSearches steps.old steps.new self.old.served self.new.served
+            (2 * (stay_at self.old.flow.program stay).forecast) }
     {
         law::solved_programs_are_solvable();
         let _nights = self.flow.nights();
@@ -289,7 +327,8 @@ impl Solver {
     pub fn certificate(&self, alloc: Global) -> Result<Certificate, Memory>
         ensures certifies { IfOk result (IsCertificateOf self.now.flow.program) }
         ensures least { IfOk result (λ c. IsSettled self.now → IsLeastCertificate self.now.flow.program c) }
-        ensures within_rates { IfOk result (λ c. IsSettled self.now → All (λ x. x ≤ greatest_rate self.now.flow.program) c.prices) }
+        ensures within_rates { IfOk result (λ c. IsSettled self.now →
+            All (λ x. x ≤ greatest_rate self.now.flow.program) c.prices) }
         ensures sold { IfOk result (λ c. c.sell ≡ self.now.flow.sell) }
     {
         bp_types::law::certificate_is_optimal();

@@ -42,7 +42,9 @@ impl Trail {
         ensures goes { IfOk result (λ _. GoesWith book.now.house book.now.history self.new) }
         ensures at { IfOk result (λ _. quoted_at self.new ≡ Some (length book.now.history)) }
         ensures course { IfOk result (λ _. self.new.course ≡ self.old.course) }
-        ensures counted { CountsUpTo steps.old steps.new (searches_to_solve book.now.house book.now.history (quoted_at self.old) + searches_to_quote book.now.house rooms) }
+        ensures counted { CountsUpTo steps.old steps.new
+            (searches_to_solve book.now.house book.now.history (quoted_at self.old) +
+            searches_to_quote book.now.house rooms) }
     {
         let solved = self.solved_now(alloc, book, steps)?;
         let units = book.house().limits().unit * rooms;
@@ -75,7 +77,8 @@ impl Trail {
         ensures solved { IfOk result (IsSolvedAt book.now.house book.now.history) }
         ensures newest { IfOk result (λ s. s.course.position ≡ length book.now.history) }
         ensures course { self.new.course ≡ self.old.course }
-        ensures counted { CountsUpTo steps.old steps.new (searches_to_solve book.now.house book.now.history (quoted_at self.old)) }
+        ensures counted { CountsUpTo steps.old steps.new
+            (searches_to_solve book.now.house book.now.history (quoted_at self.old)) }
     {
         let until = book.length();
         let mut course = match self.solved.take() {

@@ -1,5 +1,31 @@
 -- The walk to the first leaf with fewer rooms left than the units: up from the leaf before, and down, the left child first.
-use Rattle.std.proofs.Common.{◌≡◌, ◌≢◌, ℕ, zero, ◌+◌, ◌-◌, ◌*◌, ◌/◌, ◌%◌, ◌^◌, ◌<◌, ◌≤◌, ◌∙◌, suc, min, ap, sym, subst, refl, arith, List, length, slice_index, inl, inr}
+use Rattle.std.proofs.Common.{
+  ◌≡◌,
+  ◌≢◌,
+  ℕ,
+  zero,
+  ◌+◌,
+  ◌-◌,
+  ◌*◌,
+  ◌/◌,
+  ◌%◌,
+  ◌^◌,
+  ◌<◌,
+  ◌≤◌,
+  ◌∙◌,
+  suc,
+  min,
+  ap,
+  sym,
+  subst,
+  refl,
+  arith,
+  List,
+  length,
+  slice_index,
+  inl,
+  inr,
+}
 use Rattle.std.proofs.lemmas.Bool.{cases_lt, cases_eq}
 use Rattle.bp_ledger.specs.Tree.{width, above, IsOnLevel, on_way, over, kept_at, left_on, IsInner}
 use Rattle.bp_ledger.proofs.LevelLemmas.{above_half, above_mono, width_some, width_half, width_mono, level_step, way_over}
@@ -32,7 +58,8 @@ on_child : (level p c : ℕ) → IsOnLevel level p → c / 2 ≡ p → IsOnLevel
 on_child level p c on half = (omega arith, omega arith)
 
 -- a child that has fewer left
-pub descend_child : (h top first level at sum units next sum2 : ℕ) (leasts amounts : List ℕ) (is : IsDescending h top first level at sum units leasts amounts) → level < h → next / 2 ≡ at →
+pub descend_child : (h top first level at sum units next sum2 : ℕ) (leasts amounts : List ℕ) (is : IsDescending h top first level at sum units leasts amounts)
+    → level < h → next / 2 ≡ at →
     sum2 ≡ min (sum + slice_index amounts at) 18446744073709551615 →
     kept_at leasts amounts next - (slice_index amounts at + over level amounts at) < units →
     ((m : ℕ) → IsOnLevel h m → above (h - (level + 1)) m / 2 ≡ at → above (h - (level + 1)) m < next → units ≤ left_on h leasts amounts m) →
@@ -58,15 +85,20 @@ descend_child h top first level at sum units next sum2 leasts amounts is lower h
           ];
     }
 
-pub descend_left : (h top first level at sum units sum2 : ℕ) (leasts amounts : List ℕ) → IsDescending h top first level at sum units leasts amounts → level < h →
-    sum2 ≡ min (sum + slice_index amounts at) 18446744073709551615 → kept_at leasts amounts (at * 2) < 18446744073709551616 → kept_at leasts amounts (at * 2) - sum2 < units →
+pub descend_left : (h top first level at sum units sum2 : ℕ) (leasts amounts : List ℕ) → IsDescending h top first level at sum units leasts amounts →
+    level < h →
+    sum2 ≡ min (sum + slice_index amounts at) 18446744073709551615 → kept_at leasts amounts (at * 2) < 18446744073709551616 →
+    kept_at leasts amounts (at * 2) - sum2 < units →
     IsDescending h top first (level + 1) (at * 2) sum2 units leasts amounts
 descend_left h top first level at sum units sum2 leasts amounts is lower sum2_is small_ short =
     let was = is.sum_is in
-    descend_child h top first level at sum units (at * 2) sum2 leasts amounts is lower (omega arith) sum2_is (omega arith) (λ m lm half lt. absurd (omega arith))
+    descend_child h top first level at sum units (at * 2) sum2 leasts amounts is lower (omega arith) sum2_is (omega arith)
+    (λ m lm half lt. absurd (omega arith))
 
-pub descend_right : (h top first level at sum units sum2 : ℕ) (leasts amounts : List ℕ) → IsDescending h top first level at sum units leasts amounts → level < h → IsInner h leasts amounts 0 0 →
-    sum2 ≡ min (sum + slice_index amounts at) 18446744073709551615 → kept_at leasts amounts (at * 2) < 18446744073709551616 → units ≤ kept_at leasts amounts (at * 2) - sum2 →
+pub descend_right : (h top first level at sum units sum2 : ℕ) (leasts amounts : List ℕ) → IsDescending h top first level at sum units leasts amounts →
+    level < h → IsInner h leasts amounts 0 0 →
+    sum2 ≡ min (sum + slice_index amounts at) 18446744073709551615 → kept_at leasts amounts (at * 2) < 18446744073709551616 →
+    units ≤ kept_at leasts amounts (at * 2) - sum2 →
     IsDescending h top first (level + 1) (at * 2 + 1) sum2 units leasts amounts
 descend_right h top first level at sum units sum2 leasts amounts is lower inner sum2_is small_ enough =
     let was = is.sum_is in
@@ -88,7 +120,8 @@ pub record IsFirstBelow (h top first result units : ℕ) (leasts amounts : List 
   pub before : (m : ℕ) → IsOnLevel h m → above (h - top) m ≡ first → m < result → units ≤ left_on h leasts amounts m
   pub short : left_on h leasts amounts result < units
 
-pub descend_done : (h top first level at sum units : ℕ) (leasts amounts : List ℕ) → IsDescending h top first level at sum units leasts amounts → level ≡ h → IsFirstBelow h top first at units leasts amounts
+pub descend_done : (h top first level at sum units : ℕ) (leasts amounts : List ℕ) → IsDescending h top first level at sum units leasts amounts → level ≡ h →
+    IsFirstBelow h top first at units leasts amounts
 descend_done h top first level at sum units leasts amounts is end =
     let d = is.down_is in
     let down : is.down ≡ h - top = omega arith in
@@ -114,7 +147,8 @@ pub record IsAscending (h low high level left right higher units : ℕ) (leasts 
   pub higher_is : higher ≡ over level amounts left
   pub has : (m : ℕ) → low < m → m < high → above risen m ≡ left → units ≤ left_on h leasts amounts m
 
-pub ascend_start : (h low high higher units : ℕ) (leasts amounts : List ℕ) → low < high → IsOnLevel h low → IsOnLevel h high → higher ≡ on_way h amounts low - slice_index amounts low →
+pub ascend_start : (h low high higher units : ℕ) (leasts amounts : List ℕ) → low < high → IsOnLevel h low → IsOnLevel h high →
+    higher ≡ on_way h amounts low - slice_index amounts low →
     IsAscending h low high h low high higher units leasts amounts
 ascend_start h low high higher units leasts amounts lt on_low on_high higher_is =
     let all = way_over h amounts low in
@@ -131,7 +165,8 @@ ascend_start h low high higher units leasts amounts lt on_low on_high higher_is 
     }
 
 -- the amounts over a node are those over its parent and the parent's own
-pub over_parent : (h low high level left right higher units : ℕ) (leasts amounts : List ℕ) → IsAscending h low high level left right higher units leasts amounts → left < right →
+pub over_parent : (h low high level left right higher units : ℕ) (leasts amounts : List ℕ) →
+    IsAscending h low high level left right higher units leasts amounts → left < right →
     (1 ≤ level) × (higher ≡ slice_index amounts (left / 2) + over (level - 1) amounts (left / 2))
 over_parent h low high level left right higher units leasts amounts is lt =
     let some = not_root level left right is.on_left is.on_right lt in
@@ -140,7 +175,8 @@ over_parent h low high level left right higher units leasts amounts is lt =
     (some, omega arith)
 
 -- the node beside has as much over it
-pub over_beside : (h low high level left right higher units : ℕ) (leasts amounts : List ℕ) → IsAscending h low high level left right higher units leasts amounts → left < right → left % 2 ≡ 0 →
+pub over_beside : (h low high level left right higher units : ℕ) (leasts amounts : List ℕ) →
+    IsAscending h low high level left right higher units leasts amounts → left < right → left % 2 ≡ 0 →
     (IsOnLevel level (left + 1)) × (higher ≡ over level amounts (left + 1))
 over_beside h low high level left right higher units leasts amounts is lt even =
     let parent = over_parent h low high level left right higher units leasts amounts is lt in
@@ -151,7 +187,8 @@ over_beside h low high level left right higher units leasts amounts is lt even =
     let on_right = is.on_right in
     ((omega arith, omega arith), omega arith)
 
-pub ascend_step : (h low high level left right higher units : ℕ) (leasts amounts : List ℕ) → IsAscending h low high level left right higher units leasts amounts → IsOnLevel h low → IsOnLevel h high →
+pub ascend_step : (h low high level left right higher units : ℕ) (leasts amounts : List ℕ) →
+    IsAscending h low high level left right higher units leasts amounts → IsOnLevel h low → IsOnLevel h high →
     IsInner h leasts amounts 0 0 → left < right → (left % 2 ≡ 0 → units ≤ kept_at leasts amounts (left + 1) - higher) →
     IsAscending h low high (level - 1) (left / 2) (right / 2) (higher - slice_index amounts (left / 2)) units leasts amounts
 ascend_step h low high level left right higher units leasts amounts is on_low on_high inner lt enough =
@@ -186,7 +223,8 @@ ascend_step h low high level left right higher units leasts amounts is on_low on
     }
 
 -- where both ways have met, each leaf between has the units
-pub ascend_done : (h low high level left right higher units : ℕ) (leasts amounts : List ℕ) → IsAscending h low high level left right higher units leasts amounts → right ≤ left →
+pub ascend_done : (h low high level left right higher units : ℕ) (leasts amounts : List ℕ) →
+    IsAscending h low high level left right higher units leasts amounts → right ≤ left →
     (m : ℕ) → low < m → m < high → units ≤ left_on h leasts amounts m
 ascend_done h low high level left right higher units leasts amounts is end = λ m f t.
     let li = is.left_is in
@@ -196,7 +234,8 @@ ascend_done h low high level left right higher units leasts amounts is end = λ 
     is.has m f t (omega arith)
 
 -- the first leaf below the node beside is the first between
-pub ascend_found : (h low high level left right higher units result : ℕ) (leasts amounts : List ℕ) → IsAscending h low high level left right higher units leasts amounts → IsOnLevel h low → IsOnLevel h high →
+pub ascend_found : (h low high level left right higher units result : ℕ) (leasts amounts : List ℕ) →
+    IsAscending h low high level left right higher units leasts amounts → IsOnLevel h low → IsOnLevel h high →
     IsFirstBelow h level (left + 1) result units leasts amounts →
     (low < result) × ((m : ℕ) → low < m → m < high → m < result → units ≤ left_on h leasts amounts m)
 ascend_found h low high level left right higher units result leasts amounts is on_low on_high found =

@@ -1,5 +1,39 @@
 -- The two lists that contracts see, and the tree behind them.
-use Rattle.std.proofs.Common.{◌≡◌, ◌≢◌, ℕ, zero, ◌+◌, ◌-◌, ◌*◌, ◌/◌, ◌^◌, ◌<◌, ◌≤◌, ◌∙◌, ◌⊎◌, suc, ap, sym, subst, refl, arith, Bool, true, false, nat_lt, None, Some, List, length, slice_index, set, length-set, replicate, inl, inr}
+use Rattle.std.proofs.Common.{
+  ◌≡◌,
+  ◌≢◌,
+  ℕ,
+  zero,
+  ◌+◌,
+  ◌-◌,
+  ◌*◌,
+  ◌/◌,
+  ◌^◌,
+  ◌<◌,
+  ◌≤◌,
+  ◌∙◌,
+  ◌⊎◌,
+  suc,
+  ap,
+  sym,
+  subst,
+  refl,
+  arith,
+  Bool,
+  true,
+  false,
+  nat_lt,
+  None,
+  Some,
+  List,
+  length,
+  slice_index,
+  set,
+  length-set,
+  replicate,
+  inl,
+  inr,
+}
 use Rattle.std.proofs.lemmas.Bool.{cases_lt, cases_eq, lt-ltb, le-ltb}
 use Rattle.std.proofs.lemmas.List.FromFn.{length-map-range_with_len, get_or-map-range_with_len}
 use Rattle.std.proofs.lemmas.List.{get_or_past, ext_get_or, get_or-replicate, length-replicate}
@@ -25,8 +59,10 @@ pub sold_at : (h : ℕ) (amounts : List ℕ) (nights n : ℕ) → n < nights →
 sold_at h amounts nights n g = get_or-map-range_with_len (λ k. on_way h amounts (leaf h k)) 0 nights n n 0 g (omega arith)
 
 -- one of the two ways of a night is so much more than the other where the night is in the span, and otherwise the same
-pub taken_way : (h nights : ℕ) (less more : List ℕ) (s : Span) (units n : ℕ) → nights + 2 ≤ width h → s.to ≤ nights → IsTaken h (width h + s.from) (width h + s.to + 1) units less more → n < nights →
-    ((s.from ≤ n) × ((n < s.to) × (on_way h more (leaf h n) ≡ on_way h less (leaf h n) + units))) ⊎ (((n < s.from) ⊎ (s.to ≤ n)) × (on_way h more (leaf h n) ≡ on_way h less (leaf h n)))
+pub taken_way : (h nights : ℕ) (less more : List ℕ) (s : Span) (units n : ℕ) → nights + 2 ≤ width h → s.to ≤ nights →
+    IsTaken h (width h + s.from) (width h + s.to + 1) units less more → n < nights →
+    ((s.from ≤ n) × ((n < s.to) × (on_way h more (leaf h n) ≡ on_way h less (leaf h n) + units))) ⊎
+    (((n < s.from) ⊎ (s.to ≤ n)) × (on_way h more (leaf h n) ≡ on_way h less (leaf h n)))
 taken_way h nights less more s units n roomy to took g =
     let on : IsOnLevel h (leaf h n) = (omega arith, omega arith) in
     elim (cases_lt n s.from) [
@@ -38,7 +74,8 @@ taken_way h nights less more s units n roomy to took g =
     ]
 
 -- the sold rooms follow
-pub taken_sold : (h nights : ℕ) (less more : List ℕ) (s : Span) (units : ℕ) → nights + 2 ≤ width h → s.to ≤ nights → IsTaken h (width h + s.from) (width h + s.to + 1) units less more →
+pub taken_sold : (h nights : ℕ) (less more : List ℕ) (s : Span) (units : ℕ) → nights + 2 ≤ width h → s.to ≤ nights →
+    IsTaken h (width h + s.from) (width h + s.to + 1) units less more →
     sold_in h more nights ≡ rooms_moved (sold_in h less nights) s true units
 taken_sold h nights less more s units roomy to took =
     let one = length-sold_in h less nights in
@@ -65,7 +102,8 @@ taken_sold h nights less more s units roomy to took =
       | inr outside ↦ get_or_past (sold_in h more nights) k 0 (omega arith) ∙ sym (get_or_past (sold_in h less nights) k 0 (omega arith))
     ])
 
-pub released_sold : (h nights : ℕ) (less more : List ℕ) (s : Span) (units : ℕ) → nights + 2 ≤ width h → s.to ≤ nights → IsTaken h (width h + s.from) (width h + s.to + 1) units less more →
+pub released_sold : (h nights : ℕ) (less more : List ℕ) (s : Span) (units : ℕ) → nights + 2 ≤ width h → s.to ≤ nights →
+    IsTaken h (width h + s.from) (width h + s.to + 1) units less more →
     sold_in h less nights ≡ rooms_moved (sold_in h more nights) s false units
 released_sold h nights less more s units roomy to took =
     let one = length-sold_in h less nights in
@@ -154,8 +192,10 @@ module _ (h w : ℕ) (rooms leasts amounts : List ℕ) (is : IsTree h w rooms le
       subst P at (omega arith)
 
   -- other amounts, with the least numbers brought up
-  pub changed_tree : (leasts2 now : List ℕ) → length leasts2 ≡ length leasts → length now ≡ length amounts → ((m : ℕ) → IsOnLevel h m → on_way h now m < 18446744073709551616) →
-      ((n : ℕ) → n < length rooms → on_way h now (leaf h n) ≤ slice_index rooms n) → SameLeaves h leasts leasts2 → IsInner h leasts2 now 0 0 → IsTree h w rooms leasts2 now
+  pub changed_tree : (leasts2 now : List ℕ) → length leasts2 ≡ length leasts → length now ≡ length amounts →
+      ((m : ℕ) → IsOnLevel h m → on_way h now m < 18446744073709551616) →
+      ((n : ℕ) → n < length rooms → on_way h now (leaf h n) ≤ slice_index rooms n) → SameLeaves h leasts leasts2 → IsInner h leasts2 now 0 0 →
+      IsTree h w rooms leasts2 now
   changed_tree leasts2 now len len_now fits within leaves inner = record {
     from_is = is.from_is;
     roomy = is.roomy;
@@ -169,7 +209,8 @@ module _ (h w : ℕ) (rooms leasts amounts : List ℕ) (is : IsTree h w rooms le
   }
 
   pub taken_tree : (leasts2 now : List ℕ) (s : Span) (units : ℕ) → IsSpanWithin (length rooms) s → HasLeft (seen h rooms amounts) s units →
-      IsTaken h (w + s.from) (w + s.to + 1) units amounts now → length leasts2 ≡ length leasts → SameLeaves h leasts leasts2 → IsInner h leasts2 now 0 0 → IsTree h w rooms leasts2 now
+      IsTaken h (w + s.from) (w + s.to + 1) units amounts now → length leasts2 ≡ length leasts → SameLeaves h leasts leasts2 → IsInner h leasts2 now 0 0 →
+      IsTree h w rooms leasts2 now
   taken_tree leasts2 now s units span left took len leaves inner =
       let from = is.from_is in
       let T : ℕ → Type 0 = λ k. IsTaken h (k + s.from) (k + s.to + 1) units amounts now in
@@ -193,7 +234,8 @@ module _ (h w : ℕ) (rooms leasts amounts : List ℕ) (is : IsTree h w rooms le
       ]) leaves inner
 
   pub released_tree : (leasts2 now : List ℕ) (s : Span) (units : ℕ) → IsSpanWithin (length rooms) s →
-      IsTaken h (w + s.from) (w + s.to + 1) units now amounts → length leasts2 ≡ length leasts → SameLeaves h leasts leasts2 → IsInner h leasts2 now 0 0 → IsTree h w rooms leasts2 now
+      IsTaken h (w + s.from) (w + s.to + 1) units now amounts → length leasts2 ≡ length leasts → SameLeaves h leasts leasts2 → IsInner h leasts2 now 0 0 →
+      IsTree h w rooms leasts2 now
   released_tree leasts2 now s units span took len leaves inner =
       let from = is.from_is in
       let T : ℕ → Type 0 = λ k. IsTaken h (k + s.from) (k + s.to + 1) units now amounts in
@@ -206,19 +248,24 @@ module _ (h w : ℕ) (rooms leasts amounts : List ℕ) (is : IsTree h w rooms le
         | inr same ↦ let m = same.1 in omega arith
       ]) leaves inner
 
-  pub taken_seen : (now : List ℕ) (s : Span) (units : ℕ) → IsSpanWithin (length rooms) s → IsTaken h (w + s.from) (w + s.to + 1) units amounts now → seen h rooms now ≡ taken (seen h rooms amounts) s units
+  pub taken_seen : (now : List ℕ) (s : Span) (units : ℕ) → IsSpanWithin (length rooms) s → IsTaken h (w + s.from) (w + s.to + 1) units amounts now →
+      seen h rooms now ≡ taken (seen h rooms amounts) s units
   taken_seen now s units span took =
       let T : ℕ → Type 0 = λ k. IsTaken h (k + s.from) (k + s.to + 1) units amounts now in
-      ap (λ l. let v : Inventory = record { rooms = rooms; sold = l } in v) (taken_sold h (length rooms) amounts now s units is.roomy span.1 (subst T is.from_is took))
+      ap (λ l. let v : Inventory = record { rooms = rooms; sold = l } in
+      v) (taken_sold h (length rooms) amounts now s units is.roomy span.1 (subst T is.from_is took))
 
-  pub released_seen : (now : List ℕ) (s : Span) (units : ℕ) → IsSpanWithin (length rooms) s → IsTaken h (w + s.from) (w + s.to + 1) units now amounts → seen h rooms now ≡ released (seen h rooms amounts) s units
+  pub released_seen : (now : List ℕ) (s : Span) (units : ℕ) → IsSpanWithin (length rooms) s → IsTaken h (w + s.from) (w + s.to + 1) units now amounts →
+      seen h rooms now ≡ released (seen h rooms amounts) s units
   released_seen now s units span took =
       let T : ℕ → Type 0 = λ k. IsTaken h (k + s.from) (k + s.to + 1) units now amounts in
-      ap (λ l. let v : Inventory = record { rooms = rooms; sold = l } in v) (released_sold h (length rooms) now amounts s units is.roomy span.1 (subst T is.from_is took))
+      ap (λ l. let v : Inventory = record { rooms = rooms; sold = l } in
+      v) (released_sold h (length rooms) now amounts s units is.roomy span.1 (subst T is.from_is took))
 
   -- a night's rooms and those of its leaf are changed together
   pub resized_tree : (leasts2 : List ℕ) (n r : ℕ) → n < length rooms → on_way h amounts (leaf h n) ≤ r → r < 18446744073709551616 →
-      length leasts2 ≡ length leasts → SameLeaves h (set leasts (w + n + 1) r) leasts2 → IsInner h leasts2 amounts 0 0 → IsTree h w (set rooms n r) leasts2 amounts
+      length leasts2 ≡ length leasts → SameLeaves h (set leasts (w + n + 1) r) leasts2 → IsInner h leasts2 amounts 0 0 →
+      IsTree h w (set rooms n r) leasts2 amounts
   resized_tree leasts2 n r g enough low_ len lowest inner =
       let same_len = length-set rooms n r in
       let from = is.from_is in
@@ -242,7 +289,8 @@ module _ (h w : ℕ) (rooms leasts amounts : List ℕ) (is : IsTree h w rooms le
             let a = lowest (leaf h k) (omega arith) in
             elim (cases_eq k n) [
               | inl same ↦ let e = at_same rooms k n r same g in let b = at_same leasts (leaf h k) (w + n + 1) r (omega arith) (omega arith) in omega arith
-              | inr other ↦ let e = at_other rooms k n r other in let b = at_other leasts (leaf h k) (w + n + 1) r (omega arith) in let was = is.leaves k (omega arith) in omega arith
+              | inr other ↦ let e = at_other rooms k n r other in let b = at_other leasts (leaf h k) (w + n + 1) r (omega arith) in
+                  let was = is.leaves k (omega arith) in omega arith
             ];
         inner = inner;
       }
@@ -256,7 +304,8 @@ module _ (h w : ℕ) (rooms leasts amounts : List ℕ) (is : IsTree h w rooms le
       find-range_none (λ n. nat_lt (rooms_left_on (seen h rooms amounts) n) units) s.from (s.to - s.from)
       (λ k above_ below. le-ltb _ _ (let e = has (w + k + 1) (omega arith) (omega arith) in let f = left_at k (omega arith) in omega arith))
 
-  pub first_is_short : (s : Span) (units m : ℕ) → IsSpanWithin (length rooms) s → w + s.from < m → m < w + s.to + 1 → ((k : ℕ) → w + s.from < k → k < w + s.to + 1 → k < m → units ≤ left_on h leasts amounts k) →
+  pub first_is_short : (s : Span) (units m : ℕ) → IsSpanWithin (length rooms) s → w + s.from < m → m < w + s.to + 1 →
+      ((k : ℕ) → w + s.from < k → k < w + s.to + 1 → k < m → units ≤ left_on h leasts amounts k) →
       left_on h leasts amounts m < units → first_short (rooms_left_on (seen h rooms amounts)) s units ≡ Some (m - w - 1)
   first_is_short s units m span after inside before short =
       let from = span.0 in
@@ -291,7 +340,8 @@ none_at n k z none = elim (cases_lt k n) [
 ]
 
 pub laid_out : (w n : ℕ) (values was now : List ℕ) → was ≡ replicate n 0 → ((k : ℕ) → k < length values → slice_index now (w + 1 + k) ≡ slice_index values k) →
-    ((k : ℕ) → k < w + 1 → slice_index now k ≡ slice_index was k) → ((k : ℕ) → w + 1 + length values ≤ k → slice_index now k ≡ slice_index was k) → IsLaid w values now
+    ((k : ℕ) → k < w + 1 → slice_index now k ≡ slice_index was k) → ((k : ℕ) → w + 1 + length values ≤ k → slice_index now k ≡ slice_index was k) →
+    IsLaid w values now
 laid_out w n values was now none laid before past =
     let zero_at = λ (k : ℕ). ap (λ (l : List ℕ). slice_index l k) none ∙ none_at n k 0 refl in
     record {
@@ -300,7 +350,8 @@ laid_out w n values was now none laid before past =
       past = λ k g. past k g ∙ zero_at k;
     }
 
-module _ (h w : ℕ) (rooms sold leasts amounts : List ℕ) (from : w ≡ width h) (roomy : length rooms + 2 ≤ w) (each : length sold ≡ length rooms) (sells : IsLaid w sold amounts) where
+module _ (h w : ℕ) (rooms sold leasts amounts : List ℕ) (from : w ≡ width h) (roomy : length rooms + 2 ≤ w) (each : length sold ≡
+    length rooms) (sells : IsLaid w sold amounts) where
   new_way : (n : ℕ) → n < length rooms → on_way h amounts (leaf h n) ≡ slice_index sold n
   new_way n g =
       let at : leaf h n ≡ w + 1 + n = omega arith in
@@ -314,8 +365,10 @@ module _ (h w : ℕ) (rooms sold leasts amounts : List ℕ) (from : w ≡ width 
       let len = length-sold_in h amounts (length rooms) in
       ext_get_or 0 (sold_in h amounts (length rooms)) sold (omega arith) (λ n g. sold_at h amounts (length rooms) n (omega arith) ∙ new_way n (omega arith))
 
-  pub new_tree : (leasts2 : List ℕ) → length leasts ≡ w + w → length amounts ≡ w + w → length leasts2 ≡ length leasts → IsLaid w rooms leasts → SameLeaves h leasts leasts2 → IsInner h leasts2 amounts 0 0 →
-      ((n : ℕ) → slice_index rooms n < 18446744073709551616) → ((n : ℕ) → slice_index sold n < 18446744073709551616) → ((n : ℕ) → n < length rooms → slice_index sold n ≤ slice_index rooms n) →
+  pub new_tree : (leasts2 : List ℕ) → length leasts ≡ w + w → length amounts ≡ w + w → length leasts2 ≡ length leasts → IsLaid w rooms leasts →
+      SameLeaves h leasts leasts2 → IsInner h leasts2 amounts 0 0 →
+      ((n : ℕ) → slice_index rooms n < 18446744073709551616) → ((n : ℕ) → slice_index sold n < 18446744073709551616) →
+      ((n : ℕ) → n < length rooms → slice_index sold n ≤ slice_index rooms n) →
       IsTree h w rooms leasts2 amounts
   new_tree leasts2 len len_amounts len2 has leaves inner small_ small_sold within = record {
     from_is = from;

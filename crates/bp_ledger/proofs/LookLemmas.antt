@@ -1,5 +1,31 @@
 -- No leaf below a node has fewer rooms left than the node keeps, and how the first with too few is found.
-use Rattle.std.proofs.Common.{◌≡◌, ◌≢◌, ℕ, zero, ◌+◌, ◌-◌, ◌*◌, ◌/◌, ◌%◌, ◌^◌, ◌<◌, ◌≤◌, ◌∙◌, suc, min, ap, sym, subst, refl, arith, List, length, slice_index, inl, inr}
+use Rattle.std.proofs.Common.{
+  ◌≡◌,
+  ◌≢◌,
+  ℕ,
+  zero,
+  ◌+◌,
+  ◌-◌,
+  ◌*◌,
+  ◌/◌,
+  ◌%◌,
+  ◌^◌,
+  ◌<◌,
+  ◌≤◌,
+  ◌∙◌,
+  suc,
+  min,
+  ap,
+  sym,
+  subst,
+  refl,
+  arith,
+  List,
+  length,
+  slice_index,
+  inl,
+  inr,
+}
 use Rattle.std.proofs.lemmas.Bool.{cases_lt, cases_eq}
 use Rattle.bp_ledger.specs.Tree.{width, above, IsOnLevel, on_way, over, kept_at, left_on, IsInner}
 use Rattle.bp_ledger.proofs.LevelLemmas.{above_half, above_mono, above_small, width_some, width_half, width_mono, on_level_half, level_step, way_over}
@@ -28,7 +54,8 @@ above_some (suc i) (suc h) m is g = let P : ℕ → Type 0 = λ k. 1 ≤ k in su
 pub above_inner : (i h m : ℕ) → IsOnLevel h m → above (suc i) m < width h
 above_inner i h m is = let e = above_small i m in let f = is.1 in omega arith
 
-pub least_low : (i h : ℕ) (leasts amounts : List ℕ) (m : ℕ) → IsOnLevel h m → i ≤ h → IsInner h leasts amounts 0 0 → kept_at leasts amounts (above i m) ≤ slice_index leasts m - part i amounts m
+pub least_low : (i h : ℕ) (leasts amounts : List ℕ) (m : ℕ) → IsOnLevel h m → i ≤ h → IsInner h leasts amounts 0 0 →
+    kept_at leasts amounts (above i m) ≤ slice_index leasts m - part i amounts m
 least_low zero h leasts amounts m on g inner = omega arith
 least_low (suc i) h leasts amounts m on g inner =
     let c : ℕ = above (suc i) m in
@@ -45,7 +72,8 @@ least_low (suc i) h leasts amounts m on g inner =
     ]
 
 -- a leaf below a node has left what the node has, less the amounts over it
-pub has_below : (i j h : ℕ) (leasts amounts : List ℕ) (m p units : ℕ) → j + i ≡ h → IsOnLevel h m → IsInner h leasts amounts 0 0 → above i m ≡ p → units ≤ kept_at leasts amounts p - over j amounts p →
+pub has_below : (i j h : ℕ) (leasts amounts : List ℕ) (m p units : ℕ) → j + i ≡ h → IsOnLevel h m → IsInner h leasts amounts 0 0 → above i m ≡ p →
+    units ≤ kept_at leasts amounts p - over j amounts p →
     units ≤ left_on h leasts amounts m
 has_below i j h leasts amounts m p units sum on inner at enough =
     let low = least_low i h leasts amounts m on (omega arith) inner in
@@ -67,14 +95,16 @@ pub record IsLooking (h low high : ℕ) (leasts amounts : List ℕ) (left right 
   pub on_left : (m : ℕ) → low < m → m < high → above across.risen m ≡ left → left_least ≤ slice_index leasts m - part across.risen amounts m
   pub on_right : (m : ℕ) → low < m → m < high → above across.risen m ≡ right → right_least ≤ slice_index leasts m - part across.risen amounts m
 
-pub look_start : (h low high : ℕ) (leasts amounts : List ℕ) (x y : ℕ) → low < high → IsOnLevel h low → IsOnLevel h high → IsLooking h low high leasts amounts low high x y
+pub look_start : (h low high : ℕ) (leasts amounts : List ℕ) (x y : ℕ) → low < high → IsOnLevel h low → IsOnLevel h high →
+    IsLooking h low high leasts amounts low high x y
 look_start h low high leasts amounts x y lt on_low on_high = record {
   across = across_start h low high lt on_low on_high;
   on_left = λ m f t e. absurd (omega arith);
   on_right = λ m f t e. absurd (omega arith);
 }
 
-pub look_step : (h low high : ℕ) (leasts amounts : List ℕ) (left right x y x2 y2 x3 y3 : ℕ) → IsOnLevel h low → IsOnLevel h high → IsInner h leasts amounts 0 0 →
+pub look_step : (h low high : ℕ) (leasts amounts : List ℕ) (left right x y x2 y2 x3 y3 : ℕ) → IsOnLevel h low → IsOnLevel h high →
+    IsInner h leasts amounts 0 0 →
     IsLooking h low high leasts amounts left right x y → left / 2 ≢ right / 2 →
     x2 ≤ x → (left % 2 ≡ 0 → x2 ≤ kept_at leasts amounts (left + 1)) → y2 ≤ y → (right % 2 ≡ 1 → y2 ≤ kept_at leasts amounts (right - 1)) →
     x3 ≡ x2 - slice_index amounts (left / 2) → y3 ≡ y2 - slice_index amounts (right / 2) →
@@ -122,7 +152,8 @@ pub record IsClimbing (h low high : ℕ) (leasts amounts : List ℕ) (left least
   pub on_left : IsOnLevel level left
   pub below : (m : ℕ) → low < m → m < high → (above risen m / 2 ≡ left / 2) × (least ≤ slice_index leasts m - part risen amounts m)
 
-pub look_met : (h low high : ℕ) (leasts amounts : List ℕ) (left right x y z : ℕ) → IsLooking h low high leasts amounts left right x y → left / 2 ≡ right / 2 → z ≡ min x y →
+pub look_met : (h low high : ℕ) (leasts amounts : List ℕ) (left right x y z : ℕ) → IsLooking h low high leasts amounts left right x y → left / 2 ≡ right / 2 →
+    z ≡ min x y →
     IsClimbing h low high leasts amounts left z
 look_met h low high leasts amounts left right x y z is met e =
     let i : ℕ = is.across.risen in
@@ -154,7 +185,8 @@ root_level : (level p : ℕ) → IsOnLevel level p → p ≤ 1 → level ≡ 0
 root_level zero p on small_ = refl
 root_level (suc level) p on small_ = absurd (let w = width_some level in omega arith)
 
-pub climb_step : (h low high : ℕ) (leasts amounts : List ℕ) (left z z2 : ℕ) → IsClimbing h low high leasts amounts left z → 1 < left → z2 ≡ z - slice_index amounts (left / 2) →
+pub climb_step : (h low high : ℕ) (leasts amounts : List ℕ) (left z z2 : ℕ) → IsClimbing h low high leasts amounts left z → 1 < left →
+    z2 ≡ z - slice_index amounts (left / 2) →
     IsClimbing h low high leasts amounts (left / 2) z2
 climb_step h low high leasts amounts left z z2 is some e =
     let root = above_root is.level left is.on_left some in
@@ -172,7 +204,8 @@ climb_step h low high leasts amounts left z z2 is some e =
           ((ap (λ k. k / 2) w0), (omega arith));
     }
 
-pub climb_done : (h low high : ℕ) (leasts amounts : List ℕ) (left z : ℕ) → IsClimbing h low high leasts amounts left z → left ≤ 1 → (m : ℕ) → low < m → m < high → z ≤ left_on h leasts amounts m
+pub climb_done : (h low high : ℕ) (leasts amounts : List ℕ) (left z : ℕ) → IsClimbing h low high leasts amounts left z → left ≤ 1 → (m : ℕ) → low < m →
+    m < high → z ≤ left_on h leasts amounts m
 climb_done h low high leasts amounts left z is end = λ m f t.
     let level = root_level is.level left is.on_left end in
     let sum = is.sum in

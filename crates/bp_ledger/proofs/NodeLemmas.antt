@@ -1,5 +1,27 @@
 -- What a write at one node does to what the nodes keep.
-use Rattle.std.proofs.Common.{◌≡◌, ◌≢◌, ℕ, ◌+◌, ◌-◌, ◌*◌, ◌/◌, ◌<◌, ◌≤◌, ◌∙◌, refl, arith, List, length, length-set, slice_index, set, get_or-set_same, get_or-set_other, inl, inr}
+use Rattle.std.proofs.Common.{
+  ◌≡◌,
+  ◌≢◌,
+  ℕ,
+  ◌+◌,
+  ◌-◌,
+  ◌*◌,
+  ◌/◌,
+  ◌<◌,
+  ◌≤◌,
+  ◌∙◌,
+  refl,
+  arith,
+  List,
+  length,
+  length-set,
+  slice_index,
+  set,
+  get_or-set_same,
+  get_or-set_other,
+  inl,
+  inr,
+}
 use Rattle.std.proofs.lemmas.Bool.{cases_eq}
 use Rattle.bp_ledger.specs.Tree.{width, least_at, IsLeastAt, IsInner, SameLeaves}
 
@@ -57,5 +79,6 @@ pub inner_but : (h : ℕ) (leasts a : List ℕ) (x y : ℕ) → IsInner h leasts
 inner_but h leasts a x y inner = λ p some small nx ny. inner p some small (omega arith) (omega arith)
 
 -- where both parents are one, one node is brought up
-pub inner_met : (h : ℕ) (leasts a : List ℕ) (left right x : ℕ) → left / 2 ≡ right / 2 → 2 * x ≤ left → left ≤ 2 * x + 1 → IsInner h leasts a (left / 2) (right / 2) → IsInner h leasts a x x
+pub inner_met : (h : ℕ) (leasts a : List ℕ) (left right x : ℕ) → left / 2 ≡ right / 2 → 2 * x ≤ left → left ≤ 2 * x + 1 →
+    IsInner h leasts a (left / 2) (right / 2) → IsInner h leasts a x x
 inner_met h leasts a left right x met low high inner = λ p some small nx ny. inner p some small (λ e. nx (omega arith)) (λ e. nx (omega arith))

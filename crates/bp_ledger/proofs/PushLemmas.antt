@@ -1,5 +1,33 @@
 -- An amount that is pushed to both children of its node, and units that are taken off one leaf after another.
-use Rattle.std.proofs.Common.{◌≡◌, ◌≢◌, ℕ, zero, ◌+◌, ◌-◌, ◌*◌, ◌/◌, ◌%◌, ◌^◌, ◌<◌, ◌≤◌, ◌∙◌, suc, min, ap, sym, subst, refl, arith, List, length, slice_index, set, length-set, inl, inr}
+use Rattle.std.proofs.Common.{
+  ◌≡◌,
+  ◌≢◌,
+  ℕ,
+  zero,
+  ◌+◌,
+  ◌-◌,
+  ◌*◌,
+  ◌/◌,
+  ◌%◌,
+  ◌^◌,
+  ◌<◌,
+  ◌≤◌,
+  ◌∙◌,
+  suc,
+  min,
+  ap,
+  sym,
+  subst,
+  refl,
+  arith,
+  List,
+  length,
+  slice_index,
+  set,
+  length-set,
+  inl,
+  inr,
+}
 use Rattle.std.proofs.lemmas.Bool.{cases_lt, cases_eq}
 use Rattle.bp_ledger.specs.Tree.{width, above, IsOnLevel, on_way, over, kept_at, IsInner, IsTaken, SameWays, IsPushed}
 use Rattle.bp_ledger.proofs.NodeLemmas.{at_same, at_other}
@@ -97,7 +125,8 @@ push_ways h j p a b lower on len is =
       len = is.len;
       ways = λ m lm.
           let none = way_change j (suc i) h a c m (omega arith) lm (λ k g. at_other a k p 0 (omega arith)) (λ k g. at_other a k p 0 (omega arith)) in
-          let more = way_change (suc j) i h c b m (omega arith) lm (λ k g. rest_same p a b is len k (omega arith) (omega arith)) (λ k g. rest_same p a b is len k (omega arith) (omega arith)) in
+          let more = way_change (suc j) i h c b m (omega arith) lm (λ k g. rest_same p a b is len k (omega arith) (omega arith))
+          (λ k g. rest_same p a b is len k (omega arith) (omega arith)) in
           let low = above_on i (suc j) h m (omega arith) lm in
           let child = at_other a (above i m) p 0 (omega arith) in
           elim (cases_eq (above i m / 2) p) [
@@ -114,7 +143,8 @@ push_ways h j p a b lower on len is =
     }
 
 -- what is left below a node once its amount is taken stays through a push, but at the children
-kept_same : (leasts a b : List ℕ) (p k : ℕ) → p < length leasts → IsPushed p a b → k ≢ 2 * p → k ≢ 2 * p + 1 → kept_at (set leasts p (kept_at leasts a p)) b k ≡ kept_at leasts a k
+kept_same : (leasts a b : List ℕ) (p k : ℕ) → p < length leasts → IsPushed p a b → k ≢ 2 * p → k ≢ 2 * p + 1 →
+    kept_at (set leasts p (kept_at leasts a p)) b k ≡ kept_at leasts a k
 kept_same leasts a b p k len is n1 n2 = elim (cases_eq k p) [
   | inl same ↦
       let here = at_same leasts k p (kept_at leasts a p) same len in
@@ -128,7 +158,8 @@ kept_same leasts a b p k len is n1 n2 = elim (cases_eq k p) [
 ]
 
 -- what was right stays right through a push
-pub push_inner : (h : ℕ) (leasts a b : List ℕ) (p : ℕ) → 1 ≤ p → p < width h → p < length leasts → IsPushed p a b → IsInner h leasts a 0 0 → IsInner h (set leasts p (kept_at leasts a p)) b 0 0
+pub push_inner : (h : ℕ) (leasts a b : List ℕ) (p : ℕ) → 1 ≤ p → p < width h → p < length leasts → IsPushed p a b → IsInner h leasts a 0 0 →
+    IsInner h (set leasts p (kept_at leasts a p)) b 0 0
 push_inner h leasts a b p some small_ len is inner = λ q one lower nx ny.
     let x : ℕ = kept_at leasts a p in
     let was = inner q one lower nx ny in
@@ -164,17 +195,20 @@ push_clears level j p node a b e half some is none =
 pub same_ways : (h : ℕ) (a b c : List ℕ) → SameWays h a b → SameWays h b c → SameWays h a c
 same_ways h a b c one two = record { len = two.len ∙ one.len; ways = λ m on. two.ways m on ∙ one.ways m on }
 
-pub fits_still : (h : ℕ) (a b : List ℕ) → SameWays h a b → ((m : ℕ) → IsOnLevel h m → on_way h a m < 18446744073709551616) → (m : ℕ) → IsOnLevel h m → on_way h b m < 18446744073709551616
+pub fits_still : (h : ℕ) (a b : List ℕ) → SameWays h a b → ((m : ℕ) → IsOnLevel h m → on_way h a m < 18446744073709551616) → (m : ℕ) → IsOnLevel h m →
+    on_way h b m < 18446744073709551616
 fits_still h a b same fits = λ m on. let e = same.ways m on in let f = fits m on in omega arith
 
 -- units taken off a leaf
-pub leaf_taken : (h : ℕ) (was a : List ℕ) (leaf units : ℕ) → IsOnLevel h leaf → leaf < length a → SameWays h was a → units ≤ slice_index a leaf → IsTaken h (leaf - 1) (leaf + 1) units (set a leaf (slice_index a leaf - units)) was
+pub leaf_taken : (h : ℕ) (was a : List ℕ) (leaf units : ℕ) → IsOnLevel h leaf → leaf < length a → SameWays h was a → units ≤ slice_index a leaf →
+    IsTaken h (leaf - 1) (leaf + 1) units (set a leaf (slice_index a leaf - units)) was
 leaf_taken h was a leaf units on len same enough =
     let x : ℕ = slice_index a leaf - units in
     let b : List ℕ = set a leaf x in
     let some = width_some h in
     let here = at_same a leaf leaf x refl len in
-    let change = λ (m : ℕ) (lm : IsOnLevel h m). way_change h 0 h a b m (omega arith) lm (λ k g. at_other a k leaf x (omega arith)) (λ k g. at_other a k leaf x (omega arith)) in
+    let change = λ (m : ℕ) (lm : IsOnLevel h m). way_change h 0 h a b m (omega arith) lm (λ k g. at_other a k leaf x (omega arith))
+    (λ k g. at_other a k leaf x (omega arith)) in
     let long = length-set a leaf x in
     let len_same = same.len in
     record {
@@ -188,7 +222,8 @@ leaf_taken h was a leaf units on len same enough =
     }
 
 -- the leaves before one, and that one too
-pub taken_next : (h low at units : ℕ) (was a b : List ℕ) → IsOnLevel h low → IsOnLevel h at → low < at → IsTaken h low at units a was → IsTaken h (at - 1) (at + 1) units b a → IsTaken h low (at + 1) units b was
+pub taken_next : (h low at units : ℕ) (was a b : List ℕ) → IsOnLevel h low → IsOnLevel h at → low < at → IsTaken h low at units a was →
+    IsTaken h (at - 1) (at + 1) units b a → IsTaken h low (at + 1) units b was
 taken_next h low at units was a b on_low on lt done next = record {
   len = done.len ∙ next.len;
   between = λ m f t. elim (cases_eq m at) [
@@ -205,7 +240,8 @@ pub taken_none : (h low units : ℕ) (a : List ℕ) → IsTaken h low (low + 1) 
 taken_none h low units a = record { len = refl; between = λ m f t. absurd (omega arith); before = λ m lm g. refl; past = λ m lm g. refl }
 
 -- what was taken off leaves each way no greater
-pub taken_fits : (h low high units : ℕ) (was a : List ℕ) → IsTaken h low high units a was → ((m : ℕ) → IsOnLevel h m → on_way h was m < 18446744073709551616) → (m : ℕ) → IsOnLevel h m → on_way h a m < 18446744073709551616
+pub taken_fits : (h low high units : ℕ) (was a : List ℕ) → IsTaken h low high units a was →
+    ((m : ℕ) → IsOnLevel h m → on_way h was m < 18446744073709551616) → (m : ℕ) → IsOnLevel h m → on_way h a m < 18446744073709551616
 taken_fits h low high units was a is fits = λ m on.
     let f = fits m on in
     elim (cases_lt low m) [

@@ -1,5 +1,32 @@
 -- Amounts that are added or taken off between two leaves, level by level.
-use Rattle.std.proofs.Common.{◌≡◌, ◌≢◌, ℕ, zero, ◌+◌, ◌-◌, ◌*◌, ◌/◌, ◌%◌, ◌<◌, ◌≤◌, ◌∙◌, ◌⊎◌, suc, ap, sym, subst, refl, arith, List, length, slice_index, set, length-set, inl, inr}
+use Rattle.std.proofs.Common.{
+  ◌≡◌,
+  ◌≢◌,
+  ℕ,
+  zero,
+  ◌+◌,
+  ◌-◌,
+  ◌*◌,
+  ◌/◌,
+  ◌%◌,
+  ◌<◌,
+  ◌≤◌,
+  ◌∙◌,
+  ◌⊎◌,
+  suc,
+  ap,
+  sym,
+  subst,
+  refl,
+  arith,
+  List,
+  length,
+  slice_index,
+  set,
+  length-set,
+  inl,
+  inr,
+}
 use Rattle.std.proofs.lemmas.Bool.{cases_lt, cases_eq, cond-true, cond-false, eq-eqb, ne_eqb}
 use Rattle.bp_ledger.specs.Tree.{width, above, IsOnLevel, on_way, IsTaken, share_left, share_right, IsShare, IsShared, IsAmple}
 use Rattle.bp_ledger.proofs.NodeLemmas.{at_same, at_other}
@@ -13,7 +40,8 @@ share_left_is node units = elim (cases_eq (node % 2) 0) [
   | inr odd ↦ inr ((omega arith), cond-false _ _ _ (ne_eqb _ _ odd))
 ]
 
-pub share_right_is : (node units : ℕ) → ((2 * (node / 2) ≡ node) × (share_right node units ≡ 0)) ⊎ ((2 * (node / 2) + 1 ≡ node) × (share_right node units ≡ units))
+pub share_right_is : (node units : ℕ) →
+    ((2 * (node / 2) ≡ node) × (share_right node units ≡ 0)) ⊎ ((2 * (node / 2) + 1 ≡ node) × (share_right node units ≡ units))
 unfolding share_right
 share_right_is node units = elim (cases_eq (node % 2) 0) [
   | inl even ↦ inl ((omega arith), cond-true _ _ _ (eq-eqb _ _ even))
@@ -35,19 +63,22 @@ none_at left right units p no_left no_right = inr (inr (no_left, no_right, refl)
 
 -- two writes that add the shares of both neighbours
 module _ (left right units : ℕ) (less mid more : List ℕ) (lr : left < right) (apart : left / 2 ≢ right / 2) where
-  at_left : (p : ℕ) → p ≡ left + 1 → p ≢ right - 1 → slice_index more p ≡ slice_index less p + share_left left units → (gain : ℕ) × ((slice_index more p ≡ slice_index less p + gain) × IsShare left right units p gain)
+  at_left : (p : ℕ) → p ≡ left + 1 → p ≢ right - 1 → slice_index more p ≡ slice_index less p + share_left left units →
+      (gain : ℕ) × ((slice_index more p ≡ slice_index less p + gain) × IsShare left right units p gain)
   at_left p here other sum = elim (share_left_is left units) [
     | inl even ↦ (units, ((let e = even.1 in omega arith), inl (here, even.0, refl)))
     | inr odd ↦ (0, ((let e = odd.1 in omega arith), none_at left right units p (λ e. odd.0) (λ e. absurd (other e))))
   ]
 
-  at_right : (p : ℕ) → p ≢ left + 1 → p ≡ right - 1 → slice_index more p ≡ slice_index less p + share_right right units → (gain : ℕ) × ((slice_index more p ≡ slice_index less p + gain) × IsShare left right units p gain)
+  at_right : (p : ℕ) → p ≢ left + 1 → p ≡ right - 1 → slice_index more p ≡ slice_index less p + share_right right units →
+      (gain : ℕ) × ((slice_index more p ≡ slice_index less p + gain) × IsShare left right units p gain)
   at_right p other here sum = elim (share_right_is right units) [
     | inl even ↦ (0, ((let e = even.1 in omega arith), none_at left right units p (λ e. absurd (other e)) (λ e. even.0)))
     | inr odd ↦ (units, ((let e = odd.1 in omega arith), inr (inl (here, odd.0, refl))))
   ]
 
-  at_both : (p : ℕ) → p ≡ left + 1 → p ≡ right - 1 → slice_index more p ≡ slice_index less p + share_left left units + share_right right units → (gain : ℕ) × ((slice_index more p ≡ slice_index less p + gain) × IsShare left right units p gain)
+  at_both : (p : ℕ) → p ≡ left + 1 → p ≡ right - 1 → slice_index more p ≡ slice_index less p + share_left left units + share_right right units →
+      (gain : ℕ) × ((slice_index more p ≡ slice_index less p + gain) × IsShare left right units p gain)
   at_both p one two sum = elim (share_left_is left units) [
     | inl even ↦ elim (share_right_is right units) [
       | inl none ↦ (units, ((let e = even.1 in let f = none.1 in omega arith), inl (one, even.0, refl)))
@@ -59,8 +90,10 @@ module _ (left right units : ℕ) (less mid more : List ℕ) (lr : left < right)
     ]
   ]
 
-  pub shared : length more ≡ length less → slice_index mid (left + 1) ≡ slice_index less (left + 1) + share_left left units → ((p : ℕ) → p ≢ left + 1 → slice_index mid p ≡ slice_index less p) →
-      slice_index more (right - 1) ≡ slice_index mid (right - 1) + share_right right units → ((p : ℕ) → p ≢ right - 1 → slice_index more p ≡ slice_index mid p) → IsShared left right units less more
+  pub shared : length more ≡ length less → slice_index mid (left + 1) ≡ slice_index less (left + 1) + share_left left units →
+      ((p : ℕ) → p ≢ left + 1 → slice_index mid p ≡ slice_index less p) →
+      slice_index more (right - 1) ≡ slice_index mid (right - 1) + share_right right units →
+      ((p : ℕ) → p ≢ right - 1 → slice_index more p ≡ slice_index mid p) → IsShared left right units less more
   shared len at_one off_one at_two off_two = record {
     len = len;
     shares = λ p. elim (cases_eq p (left + 1)) [
@@ -128,11 +161,13 @@ added a left right units lr len apart =
     let mid : List ℕ = set a (left + 1) x in
     let y : ℕ = slice_index mid (right - 1) + share_right right units in
     let long = length-set a (left + 1) x in
-    shared left right units a mid (set mid (right - 1) y) lr apart (simp length-set refl) (at_same a (left + 1) (left + 1) x refl (omega arith)) (λ p ne. at_other a p (left + 1) x ne)
+    shared left right units a mid (set mid (right - 1) y) lr apart (simp length-set refl) (at_same a (left + 1) (left + 1) x refl (omega arith))
+    (λ p ne. at_other a p (left + 1) x ne)
     (at_same mid (right - 1) (right - 1) y refl (omega arith)) (λ p ne. at_other mid p (right - 1) y ne)
 
 -- taking both off again
-pub taken_off : (a : List ℕ) (left right units : ℕ) → left < right → right < length a → left / 2 ≢ right / 2 → share_left left units ≤ slice_index a (left + 1) → share_right right units ≤ slice_index a (right - 1) →
+pub taken_off : (a : List ℕ) (left right units : ℕ) → left < right → right < length a → left / 2 ≢ right / 2 →
+    share_left left units ≤ slice_index a (left + 1) → share_right right units ≤ slice_index a (right - 1) →
     let mid : List ℕ = set a (right - 1) (slice_index a (right - 1) - share_right right units) in
     IsShared left right units (set mid (left + 1) (slice_index mid (left + 1) - share_left left units)) a
 taken_off a left right units lr len apart one two =
@@ -147,7 +182,8 @@ taken_off a left right units lr len apart one two =
     (omega arith) (λ p ne. sym (at_other a p (right - 1) y ne))
 
 -- what changes in a turn has its parent on one of the two ways
-pub shared_apart : (left right units : ℕ) (less more : List ℕ) → IsShared left right units less more → left < right → (k : ℕ) → k / 2 ≢ left / 2 → k / 2 ≢ right / 2 → slice_index more k ≡ slice_index less k
+pub shared_apart : (left right units : ℕ) (less more : List ℕ) → IsShared left right units less more → left < right → (k : ℕ) → k / 2 ≢ left / 2 →
+    k / 2 ≢ right / 2 → slice_index more k ≡ slice_index less k
 shared_apart left right units less more is lr k not_left not_right =
     let at = is.shares k in
     let sum = at.1.0 in
@@ -160,7 +196,8 @@ shared_apart left right units less more is lr k not_left not_right =
     ]
 
 -- what changes in a turn lies between the two
-pub shared_between : (left right units : ℕ) (less more : List ℕ) → IsShared left right units less more → left < right → left / 2 ≢ right / 2 → (k : ℕ) → ((left < k) × (k < right) → ⊥) → slice_index more k ≡ slice_index less k
+pub shared_between : (left right units : ℕ) (less more : List ℕ) → IsShared left right units less more → left < right → left / 2 ≢ right / 2 → (k : ℕ) →
+    ((left < k) × (k < right) → ⊥) → slice_index more k ≡ slice_index less k
 shared_between left right units less more is lr apart k outside =
     let at = is.shares k in
     let sum = at.1.0 in
@@ -226,7 +263,8 @@ right_share left right units p gain share before parent = elim share [
 ]
 
 -- what a turn gives each way: the share of its node
-pub way_shared : (h low high left right units : ℕ) (a b : List ℕ) (across : IsAcross h low high left right) → left / 2 ≢ right / 2 → IsShared left right units a b →
+pub way_shared : (h low high left right units : ℕ) (a b : List ℕ) (across : IsAcross h low high left right) → left / 2 ≢ right / 2 →
+    IsShared left right units a b →
     (m : ℕ) → IsOnLevel h m → (gain : ℕ) × ((on_way h b m ≡ on_way h a m + gain) × IsShare left right units (above across.risen m) gain)
 way_shared h low high left right units a b across apart is m on =
     let lr = across.ordered in
@@ -244,8 +282,10 @@ abbrev pub HasGained : ℕ → ℕ → ℕ → ℕ → ℕ → List ℕ → List
 HasGained h risen left right units less more less2 more2 = (m : ℕ) → IsOnLevel h m →
     (gain : ℕ) × ((on_way h more2 m + on_way h less m ≡ on_way h less2 m + on_way h more m + gain) × IsShare left right units (above risen m) gain)
 
-pub turn_step : (h low high left right units : ℕ) (less more less2 more2 : List ℕ) (is : IsTaking h low high left right units less more) → IsOnLevel h low → IsOnLevel h high → left / 2 ≢ right / 2 →
-    length more2 ≡ length less2 → HasGained h is.across.risen left right units less more less2 more2 → IsTaking h low high (left / 2) (right / 2) units less2 more2
+pub turn_step : (h low high left right units : ℕ) (less more less2 more2 : List ℕ) (is : IsTaking h low high left right units less more) → IsOnLevel h low →
+    IsOnLevel h high → left / 2 ≢ right / 2 →
+    length more2 ≡ length less2 → HasGained h is.across.risen left right units less more less2 more2 →
+    IsTaking h low high (left / 2) (right / 2) units less2 more2
 turn_step h low high left right units less more less2 more2 is on_low on_high apart len gains =
     let i : ℕ = is.across.risen in
     let li = is.across.left_is in
@@ -261,7 +301,8 @@ turn_step h low high left right units less more less2 more2 is on_low on_high ap
           let lo = above_mono i low m (omega arith) in
           elim (cases_eq (above i m) left) [
             | inl same ↦ let done = is.on_left m f t same in let g = low_share left right units (above i m) n.0 lr apart n.1.1 (omega arith) in omega arith
-            | inr other ↦ let done = is.ahead m f t (omega arith) (omega arith) in let g = left_share left right units (above i m) n.0 n.1.1 (omega arith) e in omega arith
+            | inr other ↦ let done = is.ahead m f t (omega arith) (omega arith) in
+                let g = left_share left right units (above i m) n.0 n.1.1 (omega arith) e in omega arith
           ];
       on_right = λ m f t e.
           let n = gains m (on m f t) in
@@ -269,7 +310,8 @@ turn_step h low high left right units less more less2 more2 is on_low on_high ap
           let hi = above_mono i m high (omega arith) in
           elim (cases_eq (above i m) right) [
             | inl same ↦ let done = is.on_right m f t same in let g = high_share left right units (above i m) n.0 lr apart n.1.1 (omega arith) in omega arith
-            | inr other ↦ let done = is.ahead m f t (omega arith) (omega arith) in let g = right_share left right units (above i m) n.0 n.1.1 (omega arith) e in omega arith
+            | inr other ↦ let done = is.ahead m f t (omega arith) (omega arith) in
+                let g = right_share left right units (above i m) n.0 n.1.1 (omega arith) e in omega arith
           ];
       ahead = λ m f t p q.
           let n = gains m (on m f t) in
@@ -293,20 +335,23 @@ turn_step h low high left right units less more less2 more2 is on_low on_high ap
           omega arith;
     }
 
-pub take_step : (h low high left right units : ℕ) (was a b : List ℕ) → IsTaking h low high left right units was a → IsOnLevel h low → IsOnLevel h high → left / 2 ≢ right / 2 → IsShared left right units a b →
+pub take_step : (h low high left right units : ℕ) (was a b : List ℕ) → IsTaking h low high left right units was a → IsOnLevel h low → IsOnLevel h high →
+    left / 2 ≢ right / 2 → IsShared left right units a b →
     IsTaking h low high (left / 2) (right / 2) units was b
 take_step h low high left right units was a b is on_low on_high apart share =
     turn_step h low high left right units was a was b is on_low on_high apart (share.len ∙ is.len)
     (λ m on. let n = way_shared h low high left right units a b is.across apart share m on in (n.0, ((let e = n.1.0 in omega arith), n.1.1)))
 
-pub release_step : (h low high left right units : ℕ) (was a b : List ℕ) → IsTaking h low high left right units a was → IsOnLevel h low → IsOnLevel h high → left / 2 ≢ right / 2 → IsShared left right units b a →
+pub release_step : (h low high left right units : ℕ) (was a b : List ℕ) → IsTaking h low high left right units a was → IsOnLevel h low → IsOnLevel h high →
+    left / 2 ≢ right / 2 → IsShared left right units b a →
     IsTaking h low high (left / 2) (right / 2) units b was
 release_step h low high left right units was a b is on_low on_high apart share =
     turn_step h low high left right units a was b was is on_low on_high apart (is.len ∙ share.len)
     (λ m on. let n = way_shared h low high left right units b a is.across apart share m on in (n.0, ((let e = n.1.0 in omega arith), n.1.1)))
 
 -- where the two have met, all is taken
-pub take_done : (h low high left right units : ℕ) (less more : List ℕ) → IsTaking h low high left right units less more → left / 2 ≡ right / 2 → IsTaken h low high units less more
+pub take_done : (h low high left right units : ℕ) (less more : List ℕ) → IsTaking h low high left right units less more → left / 2 ≡ right / 2 →
+    IsTaken h low high units less more
 take_done h low high left right units less more is met =
     let li = is.across.left_is in
     let ri = is.across.right_is in
@@ -359,7 +404,8 @@ releasing_start h low high units a lt on_low on_high = record {
   same = λ p g. refl;
 }
 
-pub releasing_step : (h low high left right units : ℕ) (was a b : List ℕ) → IsReleasing h low high left right units was a → IsOnLevel h low → IsOnLevel h high → left / 2 ≢ right / 2 → IsShared left right units b a →
+pub releasing_step : (h low high left right units : ℕ) (was a b : List ℕ) → IsReleasing h low high left right units was a → IsOnLevel h low →
+    IsOnLevel h high → left / 2 ≢ right / 2 → IsShared left right units b a →
     IsReleasing h low high (left / 2) (right / 2) units was b
 releasing_step h low high left right units was a b is on_low on_high apart share =
     let lr = is.taking.across.ordered in
@@ -376,7 +422,8 @@ releasing_step h low high left right units was a b is on_low on_high apart share
     }
 
 -- the shares of a turn are there
-pub ample_turn : (h low high left right units : ℕ) (was a : List ℕ) → IsReleasing h low high left right units was a → IsAmple low high units was → left / 2 ≢ right / 2 →
+pub ample_turn : (h low high left right units : ℕ) (was a : List ℕ) → IsReleasing h low high left right units was a → IsAmple low high units was →
+    left / 2 ≢ right / 2 →
     (share_left left units ≤ slice_index a (left + 1)) × (share_right right units ≤ slice_index a (right - 1))
 ample_turn h low high left right units was a is ample apart =
     let across = is.taking.across in
@@ -396,13 +443,15 @@ ample_turn h low high left right units was a is ample apart =
 -- the levels that were passed have enough
 pub record IsChecked (low high units : ℕ) (h left right : ℕ) (amounts : List ℕ) : Type 0 where
   pub across : IsAcross h low high left right
-  pub below : (i : ℕ) → i < across.risen → (share_left (above i low) units ≤ slice_index amounts (above i low + 1)) × (share_right (above i high) units ≤ slice_index amounts (above i high - 1))
+  pub below : (i : ℕ) → i < across.risen → (share_left (above i low) units ≤ slice_index amounts (above i low + 1)) ×
+      (share_right (above i high) units ≤ slice_index amounts (above i high - 1))
 
 pub checked_start : (low high units h : ℕ) (amounts : List ℕ) → low < high → IsOnLevel h low → IsOnLevel h high → IsChecked low high units h low high amounts
 checked_start low high units h amounts lt on_low on_high = record { across = across_start h low high lt on_low on_high; below = λ i g. absurd (omega arith) }
 
 pub checked_step : (low high units h left right : ℕ) (amounts : List ℕ) → IsChecked low high units h left right amounts → left / 2 ≢ right / 2 →
-    share_left left units ≤ slice_index amounts (left + 1) → share_right right units ≤ slice_index amounts (right - 1) → IsChecked low high units h (left / 2) (right / 2) amounts
+    share_left left units ≤ slice_index amounts (left + 1) → share_right right units ≤ slice_index amounts (right - 1) →
+    IsChecked low high units h (left / 2) (right / 2) amounts
 checked_step low high units h left right amounts is apart one two = record {
   across = across_step h low high left right is.across apart;
   below = λ i g. elim (cases_eq i is.across.risen) [
@@ -421,7 +470,8 @@ met_stays r (suc i) low high met g = elim (cases_eq r (suc i)) [
   | inr other ↦ ap (λ k. k / 2) (met_stays r i low high met (omega arith))
 ]
 
-pub checked_done : (low high units h left right : ℕ) (amounts : List ℕ) → IsChecked low high units h left right amounts → left / 2 ≡ right / 2 → IsAmple low high units amounts
+pub checked_done : (low high units h left right : ℕ) (amounts : List ℕ) → IsChecked low high units h left right amounts → left / 2 ≡ right / 2 →
+    IsAmple low high units amounts
 checked_done low high units h left right amounts is met i apart = elim (cases_lt i is.across.risen) [
   | inl below ↦ is.below i below
   | inr above_ ↦

@@ -1,5 +1,32 @@
 -- The walk up from two leaves, level by level.
-use Rattle.std.proofs.Common.{◌≡◌, ◌≢◌, ℕ, zero, ◌+◌, ◌-◌, ◌*◌, ◌/◌, ◌%◌, ◌<◌, ◌≤◌, ◌∙◌, ◌⊎◌, suc, ap, sym, subst, refl, arith, List, length, slice_index, set, length-set, inl, inr}
+use Rattle.std.proofs.Common.{
+  ◌≡◌,
+  ◌≢◌,
+  ℕ,
+  zero,
+  ◌+◌,
+  ◌-◌,
+  ◌*◌,
+  ◌/◌,
+  ◌%◌,
+  ◌<◌,
+  ◌≤◌,
+  ◌∙◌,
+  ◌⊎◌,
+  suc,
+  ap,
+  sym,
+  subst,
+  refl,
+  arith,
+  List,
+  length,
+  slice_index,
+  set,
+  length-set,
+  inl,
+  inr,
+}
 use Rattle.std.proofs.lemmas.Bool.{cases_eq}
 use Rattle.bp_ledger.specs.Tree.{width, above, IsOnLevel, on_way, IsTaken, share_left, share_right, IsShare, IsShared, IsAmple}
 use Rattle.bp_ledger.proofs.NodeLemmas.{at_same, at_other}

@@ -1,6 +1,33 @@
-ghost use Rattle.std.specs.Prelude.{◌≡◌, ℕ, ◌+◌, ◌<◌, ◌≤◌, ◌^◌, ◌↔◌, true, false, length, slice_index, EachIndex, IfOk, IfErr, IsErr, OnOk, OnErr};
+ghost use Rattle.std.specs.Prelude.{
+  ◌≡◌,
+  ℕ,
+  ◌+◌,
+  ◌<◌,
+  ◌≤◌,
+  ◌^◌,
+  ◌↔◌,
+  true,
+  false,
+  length,
+  slice_index,
+  EachIndex,
+  IfOk,
+  IfErr,
+  IsErr,
+  OnOk,
+  OnErr,
+};
 ghost use Rattle.bp_types.specs.Spans.{IsSpanWithin, first_short};
-ghost use Rattle.bp_ledger.specs.Inventory.{Inventory, IsInventory, HasLeft, HasSold, taken, released, resized, rooms_left_on};
+ghost use Rattle.bp_ledger.specs.Inventory.{
+  Inventory,
+  IsInventory,
+  HasLeft,
+  HasSold,
+  taken,
+  released,
+  resized,
+  rooms_left_on,
+};
 
 use crate::tree::{
     bring_up, build, first_between, lay, least_between, release_between, shape, take_between, way,

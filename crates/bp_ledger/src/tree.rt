@@ -3,8 +3,45 @@
 //! Each walk begins at two leaves, one on each side of a span, and goes up from both until they meet. What lies between
 //! the two on a level and has its parent on neither's way is covered from above: the right neighbour of a left child on
 //! the left way, and the left neighbour of a right child on the right way.
-ghost use Rattle.std.specs.Prelude.{◌≡◌, ◌≢◌, ℕ, ◌+◌, ◌-◌, ◌*◌, ◌/◌, ◌%◌, ◌<◌, ◌≤◌, ◌^◌, min, true, false, length, slice_index, slice_set, IfOk};
-ghost use Rattle.bp_ledger.specs.Tree.{width, IsOnLevel, above, on_way, over, kept_at, least_at, IsInner, SameLeaves, IsTaken, SameWays, IsPushed, share_left, share_right, IsShared, IsAmple, left_on};
+ghost use Rattle.std.specs.Prelude.{
+  ◌≡◌,
+  ◌≢◌,
+  ℕ,
+  ◌+◌,
+  ◌-◌,
+  ◌*◌,
+  ◌/◌,
+  ◌%◌,
+  ◌<◌,
+  ◌≤◌,
+  ◌^◌,
+  min,
+  true,
+  false,
+  length,
+  slice_index,
+  slice_set,
+  IfOk,
+};
+ghost use Rattle.bp_ledger.specs.Tree.{
+  width,
+  IsOnLevel,
+  above,
+  on_way,
+  over,
+  kept_at,
+  least_at,
+  IsInner,
+  SameLeaves,
+  IsTaken,
+  SameWays,
+  IsPushed,
+  share_left,
+  share_right,
+  IsShared,
+  IsAmple,
+  left_on,
+};
 
 use bp_types::Memory;
 
@@ -119,7 +156,8 @@ fn beside_right(node: usize, units: u64) -> u64
     if node.is_multiple_of(2) { 0 } else { units }
 }
 
-/// Leaves the units at the nodes between two on their level that no other level covers. They are added without a branch,
+/// Leaves the units at the nodes between two on their level that no other level covers. They are added without a
+/// branch,
 /// which could not be foreseen.
 fn add_between(amounts: &mut [u64], left: usize, right: usize, units: u64)
     requires ordered { left < right }
@@ -327,7 +365,8 @@ fn first_below(
     requires higher { higher ≡ over top amounts.now node }
     requires short { kept_at leasts.now amounts.now node - higher < units }
     ensures below { above (levels - top) result ≡ node }
-    ensures before { (m : ℕ) → IsOnLevel levels m → above (levels - top) m ≡ node → m < result → units ≤ left_on levels leasts.now amounts.now m }
+    ensures before { (m : ℕ) → IsOnLevel levels m → above (levels - top) m ≡ node → m < result →
+        units ≤ left_on levels leasts.now amounts.now m }
     ensures short { left_on levels leasts.now amounts.now result < units }
 {
     let mut at = node;

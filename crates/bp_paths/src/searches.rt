@@ -1,4 +1,21 @@
-ghost use Rattle.std.specs.Prelude.{◌≡◌, ℕ, ◌+◌, ◌-◌, ◌*◌, ◌^◌, ◌<◌, ◌≤◌, [], length, replicate, slice_index, All, drop, false, IfOk};
+ghost use Rattle.std.specs.Prelude.{
+  ◌≡◌,
+  ℕ,
+  ◌+◌,
+  ◌-◌,
+  ◌*◌,
+  ◌^◌,
+  ◌<◌,
+  ◌≤◌,
+  [],
+  length,
+  replicate,
+  slice_index,
+  All,
+  drop,
+  false,
+  IfOk,
+};
 ghost use Rattle.bp_residual.specs.Network.{Priced, IsSlack, IsPriced, Admits, step_of, steps_of, arcs, nodes};
 ghost use Rattle.bp_paths.specs.Labels.{AreLabelsSoFar, IsTracedPath};
 ghost use Rattle.bp_paths.specs.Paths.{far, ScratchView, Serves, AreDistancesTo, distance_of, least_room, IsReached};
@@ -64,7 +81,9 @@ impl Model for Scratch {
 
     ghost view = { λ a. record { distances = a.labels.kept.items; path = drop a.start a.slots.items; served = a.served } };
 
-    ghost invariant = { λ a. (length a.labels.rank.items ≡ length a.labels.kept.items) × (length a.labels.via.items ≡ length a.labels.kept.items) × (length a.slots.items ≡ length a.labels.kept.items) × (a.start ≤ length a.slots.items) };
+    ghost invariant = { λ a. (length a.labels.rank.items ≡ length a.labels.kept.items) ×
+        (length a.labels.via.items ≡ length a.labels.kept.items) ×
+        (length a.slots.items ≡ length a.labels.kept.items) × (a.start ≤ length a.slots.items) };
 }
 
 impl Scratch {
@@ -178,14 +197,17 @@ fn bottleneck(flow: &Flow, path: &[Hop]) -> u64
 /// Writes the path to a node that was reached at the end of the slots; answers where it begins, and its room.
 fn path_to(flow: &Flow, to: u32, labels: &Labels, slots: &mut [Hop]) -> (usize, u64)
     requires priced { IsPriced flow.now }
-    requires labels { AreLabelsSoFar false flow.now labels.now.from labels.now.count labels.now.kept.items labels.now.rank.items labels.now.via.items }
+    requires labels { AreLabelsSoFar false flow.now labels.now.from labels.now.count labels.now.kept.items
+        labels.now.rank.items labels.now.via.items }
     requires to { to < nodes flow.now }
     requires near { slice_index labels.now.kept.items to < far }
     requires closed { 0 < slice_index labels.now.rank.items to }
     requires slots { length slots.old ≡ nodes flow.now }
     ensures start { result.0 ≤ length slots.new }
-    ensures path { IsTracedPath flow.now labels.now.kept.items labels.now.rank.items labels.now.from to (drop result.0 slots.new) }
-    ensures admits { All (λ h. Admits flow.now.flow (step_of flow.now.flow.program h) result.1) (drop result.0 slots.new) }
+    ensures path { IsTracedPath flow.now labels.now.kept.items labels.now.rank.items labels.now.from to
+        (drop result.0 slots.new) }
+    ensures admits { All (λ h. Admits flow.now.flow (step_of flow.now.flow.program h) result.1)
+        (drop result.0 slots.new) }
     ensures some { 1 ≤ result.1 }
     ensures least { result.1 ≡ least_room flow.now.flow (steps_of flow.now.flow.program (drop result.0 slots.new)) }
 {

@@ -1,6 +1,35 @@
 -- Names of files and the lines that they stand on: no byte of a name is a space or a line's end, so the names of a line can
 -- be told.
-use Rattle.std.proofs.Common.{◌≡◌, ◌≢◌, ◌⊎◌, ℕ, zero, suc, ◌<◌, ◌≤◌, ◌==◌, ◌&&◌, refl, ap, sym, subst, ◌∙◌, arith, Bool, true, false, List, [], ◌∷◌, ◌++◌, length, All, get_or, inl, inr}
+use Rattle.std.proofs.Common.{
+  ◌≡◌,
+  ◌≢◌,
+  ◌⊎◌,
+  ℕ,
+  zero,
+  suc,
+  ◌<◌,
+  ◌≤◌,
+  ◌==◌,
+  ◌&&◌,
+  refl,
+  ap,
+  sym,
+  subst,
+  ◌∙◌,
+  arith,
+  Bool,
+  true,
+  false,
+  List,
+  [],
+  ◌∷◌,
+  ◌++◌,
+  length,
+  All,
+  get_or,
+  inl,
+  inr,
+}
 use Rattle.std.specs.Prelude.{not, nat_le, IsTrue}
 use Rattle.std.specs.List.{list_all}
 use Rattle.std.specs.Str.{IsAscii, IsUtf8}
@@ -16,7 +45,9 @@ use Rattle.bp_portfolio.specs.Lists.{FiveNames, is_name_byte, is_name, is_named,
 -- a word that is a name has such bytes
 name_bytes : (w : Word) → IsTrue (is_name w) → IsTrue (list_all is_name_byte w)
 name_bytes [] is = absurd (cc)
-name_bytes (b ∷ bs) is = (and_parts (not (b == 45)) (list_all is_name_byte (b ∷ bs)) (and_parts (nat_le (length (b ∷ bs)) 200) (not (b == 45) && list_all is_name_byte (b ∷ bs)) is).1).1
+name_bytes (b ∷ bs) is =
+    (and_parts (not (b == 45)) (list_all is_name_byte (b ∷ bs))
+    (and_parts (nat_le (length (b ∷ bs)) 200) (not (b == 45) && list_all is_name_byte (b ∷ bs)) is).1).1
 
 byte_within : (b : ℕ) → IsTrue (is_name_byte b) → (33 ≤ b) × (b ≤ 126)
 byte_within b is = let p = and_parts (nat_le 33 b) (nat_le b 126) is in (leb-true 33 b p.0, leb-true b 126 p.1)
@@ -120,7 +151,8 @@ not_names line words are other (n, is, e) = other n (five n is) (sym are ∙ ap 
 first_word : (w v : Word) (ws vs : List Word) → w ∷ ws ≡ v ∷ vs → (w ≡ v) × (ws ≡ vs)
 first_word w v ws vs e = let h : w ≡ v = cc in let t : ws ≡ vs = cc in (h, t)
 
-in_front_back : (b : ℕ) (bs : List ℕ) (ws : List Word) (w : Word) (vs : List Word) → ((v : Word) (us : List Word) → ws ≡ v ∷ us → bs ≡ joined v us) → (ws ≡ [] → ⊥) → in_front b ws ≡ w ∷ vs → b ∷ bs ≡ joined w vs
+in_front_back : (b : ℕ) (bs : List ℕ) (ws : List Word) (w : Word) (vs : List Word) → ((v : Word) (us : List Word) → ws ≡ v ∷ us → bs ≡ joined v us) →
+    (ws ≡ [] → ⊥) → in_front b ws ≡ w ∷ vs → b ∷ bs ≡ joined w vs
 in_front_back b bs [] w vs back some e = absurd (some refl)
 in_front_back b bs (v ∷ us) w vs back some e =
     let parts = first_word (b ∷ v) w us vs e in

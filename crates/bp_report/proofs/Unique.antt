@@ -29,5 +29,6 @@ pub reports_are_unique : DaysHaveOneText → ReportsAreUnique
 reports_are_unique law season stay_codes h H a b one other =
     let nights = nights_alike law season h H (length h.rooms) one.dates other.dates one.dates_are other.dates_are in
     let lines : report_lines one.dates stay_codes h H ≡ report_lines other.dates stay_codes h H =
-    ap (λ (rows : List Line). night_header ∷ rows ++ stay_header ∷ stay_lines stay_codes h H (length stay_codes) ++ line_of (codes "value") (last_value_of H ∷ []) ∷ []) nights in
+    ap (λ (rows : List Line). night_header ∷ rows ++ stay_header ∷ stay_lines stay_codes h H (length stay_codes) ++ line_of (codes "value")
+    (last_value_of H ∷ []) ∷ []) nights in
     one.text_is ∙ ap text_of lines ∙ sym other.text_is

@@ -1,5 +1,60 @@
-ghost use Rattle.std.specs.Prelude.{◌≡◌, ℕ, ◌+◌, ◌-◌, ◌*◌, ◌^◌, ◌<◌, ◌≤◌, length, slice_index, slice_set, IfOk, IfSome, MatchOption, ◌↔◌, if◌then◌else◌, All, map, neg_ℤ, pos};
-ghost use Rattle.bp_residual.specs.Network.{Priced, IsPriced, IsLifted, step_of, steps_of, arcs, tail, head, Admits, IsCost, IsFreeStep, prices_of, IsEmptyFlowOf, greatest_rate, forward_step, capacity, carried_by, gain, with_program, with_rooms, with_sold, room_of, IsSlack, pushed, sell_more, sell_less, spare_more, spare_less, greatest_spare, FitsSpare, Takes, NamesArcsOnce, pushed_along};
+ghost use Rattle.std.specs.Prelude.{
+  ◌≡◌,
+  ℕ,
+  ◌+◌,
+  ◌-◌,
+  ◌*◌,
+  ◌^◌,
+  ◌<◌,
+  ◌≤◌,
+  length,
+  slice_index,
+  slice_set,
+  IfOk,
+  IfSome,
+  MatchOption,
+  ◌↔◌,
+  if◌then◌else◌,
+  All,
+  map,
+  neg_ℤ,
+  pos,
+};
+ghost use Rattle.bp_residual.specs.Network.{
+  Priced,
+  IsPriced,
+  IsLifted,
+  step_of,
+  steps_of,
+  arcs,
+  tail,
+  head,
+  Admits,
+  IsCost,
+  IsFreeStep,
+  prices_of,
+  IsEmptyFlowOf,
+  greatest_rate,
+  forward_step,
+  capacity,
+  carried_by,
+  gain,
+  with_program,
+  with_rooms,
+  with_sold,
+  room_of,
+  IsSlack,
+  pushed,
+  sell_more,
+  sell_less,
+  spare_more,
+  spare_less,
+  greatest_spare,
+  FitsSpare,
+  Takes,
+  NamesArcsOnce,
+  pushed_along,
+};
 ghost use Rattle.bp_residual.specs.Index.{AreHopsAt};
 ghost use Rattle.bp_types.specs.Program.{worth, stay_at};
 ghost use Rattle.std.specs.List.{range_with_len};
@@ -36,14 +91,22 @@ impl Model for Flow {
 
     ghost view = { λ a. record { flow = record { program = a.instance; sell = a.sell.items; spare = a.spare.items }; potentials = a.potentials.items } };
 
-    ghost invariant = { λ a. IsPriced (record { flow = record { program = a.instance; sell = a.sell.items; spare = a.spare.items }; potentials = a.potentials.items }) × AreEnds a.instance a.network };
+    ghost invariant = { λ a. IsPriced
+        (record {
+          flow = record { program = a.instance; sell = a.sell.items; spare = a.spare.items };
+          potentials =
+              a.potentials.items;
+        }) × AreEnds a.instance a.network };
 }
 
 /// The price of each night.
 fn prices(alloc: Global, potentials: &[u64]) -> Result<Vec<u64>, Memory>
     requires some { 0 < length potentials.now }
-    requires falls { (n : ℕ) → n < length potentials.now - 1 → slice_index potentials.now (n + 1) ≤ slice_index potentials.now n }
-    ensures { IfOk result (λ v. v.items ≡ map (λ n. slice_index potentials.now n - slice_index potentials.now (n + 1)) (range_with_len 0 (length potentials.now - 1))) }
+    requires falls { (n : ℕ) → n < length potentials.now - 1 →
+        slice_index potentials.now (n + 1) ≤ slice_index potentials.now n }
+    ensures { IfOk result (λ v. v.items ≡
+        map (λ n. slice_index potentials.now n - slice_index potentials.now (n + 1))
+        (range_with_len 0 (length potentials.now - 1))) }
 {
     let mut prices = Vec::new(alloc);
     for night in 0..potentials.len() - 1 {
@@ -310,7 +373,8 @@ impl Flow {
     /// The ends of a night's hop, if it has room for a unit and reduced cost 0.
     fn night_way(&self, night: u32, forward: bool) -> Option<(u32, u32)>
         requires { night < length self.now.flow.program.rooms }
-        ensures { IfSome result (λ e. IsFreeStep self.now (if forward then spare_more night else spare_less night) e.0 e.1) }
+        ensures { IfSome result (λ e. IsFreeStep self.now (if forward then spare_more night else spare_less night)
+            e.0 e.1) }
     {
         let place = night as usize;
         if self.potentials[place] != self.potentials[place + 1] {
@@ -370,7 +434,8 @@ impl Flow {
     fn push_night(&mut self, night: u32, forward: bool, units: u64)
         requires admits { Admits self.old.flow (if forward then spare_more night else spare_less night) units }
         requires fits { FitsSpare self.old.flow (if forward then spare_more night else spare_less night) units }
-        ensures flow { self.new.flow ≡ pushed self.old.flow (if forward then spare_more night else spare_less night) units }
+        ensures flow { self.new.flow ≡
+            pushed self.old.flow (if forward then spare_more night else spare_less night) units }
         ensures potentials { self.new.potentials ≡ self.old.potentials }
     {
         let place = night as usize;
@@ -385,7 +450,8 @@ impl Flow {
     pub fn lift(&mut self, by: &[u128])
         requires one_each { length by.now ≡ length self.old.flow.program.rooms + 1 }
         requires small { All (λ x. x ≤ 10 ^ 30) by.now }
-        ensures potentials { IsLifted (length self.old.flow.program.rooms) self.old.potentials by.now self.new.potentials }
+        ensures potentials { IsLifted (length self.old.flow.program.rooms)
+            self.old.potentials by.now self.new.potentials }
         ensures flow { self.new.flow ≡ self.old.flow }
     {
         lift_potentials(&mut self.potentials, by);
@@ -502,7 +568,8 @@ impl Flow {
 
     /// The allocation, the prices, and the revenue as the value of both.
     pub fn certificate(&self, alloc: Global) -> Result<Certificate, Memory>
-        ensures { IfOk result (λ c. (c.value ≡ worth self.now.flow.program self.now.flow.sell) × (c.sell ≡ self.now.flow.sell) × (c.prices ≡ prices_of self.now)) }
+        ensures { IfOk result (λ c. (c.value ≡ worth self.now.flow.program self.now.flow.sell) ×
+            (c.sell ≡ self.now.flow.sell) × (c.prices ≡ prices_of self.now)) }
     {
         let sell = Vec::from_slice(alloc, &self.sell)?;
         let prices = prices(alloc, &self.potentials)?;

@@ -1,6 +1,33 @@
 -- From the files of a command to the end of a call. The proof of a command cites `brings_stop` and `brings_answer`, that
 -- of the whole program `serves`, `serves_nothing` and `known`.
-use Rattle.std.proofs.Common.{◌≡◌, ◌≢◌, inl, inr, ℕ, ◌≤◌, ◌<◌, ◌⊎◌, Bool, true, false, refl, ap, sym, subst, ◌∙◌, arith, List, [], ◌∷◌, Option, None, Some, Result, Ok, Err}
+use Rattle.std.proofs.Common.{
+  ◌≡◌,
+  ◌≢◌,
+  inl,
+  inr,
+  ℕ,
+  ◌≤◌,
+  ◌<◌,
+  ◌⊎◌,
+  Bool,
+  true,
+  false,
+  refl,
+  ap,
+  sym,
+  subst,
+  ◌∙◌,
+  arith,
+  List,
+  [],
+  ◌∷◌,
+  Option,
+  None,
+  Some,
+  Result,
+  Ok,
+  Err,
+}
 use Rattle.std.specs.Prelude.{codes, if◌then◌else◌, IfOk}
 use Rattle.std.specs.List.{list_all}
 use Rattle.bp_cert.specs.declared.verdict.Verdict.{Verdict}
@@ -53,7 +80,8 @@ use Rattle.bp_run.specs.declared.end.End.{End}
 use Rattle.bp_run.specs.declared.end.End.TheVariants.{NotPlain, Fault, Refused, Answered}
 
 -- a command whose files stop, stops
-pub brings_stop : (shelf : Fetches) (command : Command) (next : ℕ) (stop : Stop) → Follows shelf command.plan 1 next (Err stop) → Brings shelf command (Err stop)
+pub brings_stop : (shelf : Fetches) (command : Command) (next : ℕ) (stop : Stop) → Follows shelf command.plan 1 next (Err stop) →
+    Brings shelf command (Err stop)
 brings_stop shelf command next stop follows = record { stops = follows.answers; unfailing = follows.unfailing }
 
 -- a command whose files give something answers it
@@ -104,7 +132,8 @@ report_number (Tables text) = omega arith
 report_number (IllegalReport place rule) = omega arith
 
 -- a run is done or unfinished
-run_number : (whole : Bool) → (status_number (if whole then status.Done else status.Unfinished) ≤ 3) ⊎ (status_number (if whole then status.Done else status.Unfinished) ≡ 7)
+run_number : (whole : Bool) → (status_number (if whole then status.Done else status.Unfinished) ≤ 3) ⊎
+    (status_number (if whole then status.Done else status.Unfinished) ≡ 7)
 run_number true = inl (omega arith)
 run_number false = inr refl
 
@@ -216,7 +245,10 @@ module _ (words : List Word) (shelf : Fetches) (out : Puts) (end : End) (has : H
   at_end s (inr (inl (is, cut))) =
       let same : status_number s ≡ 5 = ap status_number is in record {
         done = λ not_cut not_empty. absurd (not_cut same);
-        cut_off = λ five. (cut.rose, record { number = status_number (end_status end); text = said end; outcome = outcome words shelf end has; written = cut.written });
+        cut_off = λ five. (
+          cut.rose,
+          record { number = status_number (end_status end); text = said end; outcome = outcome words shelf end has; written = cut.written },
+        );
         no_memory = λ six. absurd (omega arith);
         steady_shelf = λ steady holds four. omega arith;
         steady_sink = λ steady five. cut.unsteady steady;
@@ -236,7 +268,8 @@ module _ (words : List Word) (shelf : Fetches) (out : Puts) (end : End) (has : H
   serves s number is prints = let P : ℕ → Type 0 = λ n. Serves words shelf out n in subst P (sym is) (at_end s prints)
 
 -- a call that finds no memory before it writes
-pub serves_nothing : (words : List Word) (shelf : Fetches) (out : Puts) (number : ℕ) → number ≡ 6 → out.now.written ≡ out.before.written → Serves words shelf out number
+pub serves_nothing : (words : List Word) (shelf : Fetches) (out : Puts) (number : ℕ) → number ≡ 6 → out.now.written ≡ out.before.written →
+    Serves words shelf out number
 serves_nothing words shelf out number is same = record {
   done = λ not_cut not_empty. absurd (not_empty is);
   cut_off = λ five. absurd (omega arith);
@@ -247,7 +280,8 @@ serves_nothing words shelf out number is same = record {
 }
 
 -- a plain command is none that may start threads
-threads_apart : (first command : Word) → first ≡ command → (command ≡ codes "desk" → ⊥) → (command ≡ codes "scenarios" → ⊥) → (command ≡ codes "portfolio" → ⊥) → NamesThreads first → ⊥
+threads_apart : (first command : Word) → first ≡ command → (command ≡ codes "desk" → ⊥) → (command ≡ codes "scenarios" → ⊥) →
+    (command ≡ codes "portfolio" → ⊥) → NamesThreads first → ⊥
 threads_apart first command is not_desk not_scenarios not_portfolio names = elim names [
   | inl e ↦ not_desk (sym is ∙ e)
   | inr (inl e) ↦ not_scenarios (sym is ∙ e)
@@ -330,7 +364,8 @@ demo_numbers words (sheet p) asks = tt
 demo_numbers words (portfolio list workers) asks = tt
 
 -- words that ask for no task that may start threads are not served, where their command may
-pub not_threads_task : TasksAreUnique → (words : List Word) (task : Task) → MayStartThreads words → Asks words task → (IsDesk task → ⊥) → (AreScenarios task → ⊥) → (IsPortfolio task → ⊥) → AreServed words → ⊥
+pub not_threads_task : TasksAreUnique → (words : List Word) (task : Task) → MayStartThreads words → Asks words task → (IsDesk task → ⊥) →
+    (AreScenarios task → ⊥) → (IsPortfolio task → ⊥) → AreServed words → ⊥
 not_threads_task unique words task may asks no_desk no_scenarios no_portfolio (t, asks_t) = elim (threads_task words t may asks_t) [
   | inl is ↦ no_desk (subst IsDesk (unique words t task asks_t asks) is)
   | inr (inl are) ↦ no_scenarios (subst AreScenarios (unique words t task asks_t asks) are)
@@ -338,7 +373,8 @@ not_threads_task unique words task may asks no_desk no_scenarios no_portfolio (t
 ]
 
 -- a command that was stopped at a file, and the end of each line that asks for its task
-pub stopped_ends : {E : Type 0} (shelf : Fetches) (task : Task) (stop : Stop) (result : Result End E) → IsStopped shelf (command_of task) stop → HasStopped stop result
+pub stopped_ends : {E : Type 0} (shelf : Fetches) (task : Task) (stop : Stop) (result : Result End E) → IsStopped shelf (command_of task) stop →
+    HasStopped stop result
     → IfOk result (HasTaskEnd task shelf)
 stopped_ends shelf task stops.Memory (Ok end) is e = absurd (let no : false ≡ true = e in cc)
 stopped_ends shelf task stops.Memory (Err x) is e = tt
@@ -369,7 +405,8 @@ module _ {E : Type 0} (words : List Word) (shelf : Fetches) (task : Task) (asks 
 
 -- the line of a desk, and the end of its call
 module _ (words : List Word) (shelf : Fetches) (task : Task) (line : DeskLine) (asks : Asks words task) (is : IsDeskOf task line) where
-  pub ran_has : (ran : RanValue) → IsAnswered shelf.before.held (desk_command (named line.hotel) line.script.now line.workers) ran → HasEnd words shelf (Answered (Ran ran))
+  pub ran_has : (ran : RanValue) → IsAnswered shelf.before.held (desk_command (named line.hotel) line.script.now line.workers) ran →
+      HasEnd words shelf (Answered (Ran ran))
   ran_has ran answered =
       let P : Task → Type 0 = λ t. IsAnswerOf shelf.before.held (command_of t) (Ran ran) in
       (task, asks, subst P (sym is) (record { own = ran; is = refl; answered = answered }))
@@ -379,7 +416,8 @@ module _ (words : List Word) (shelf : Fetches) (task : Task) (line : DeskLine) (
 
 -- the line of scenarios, and the end of its call
 module _ (words : List Word) (shelf : Fetches) (task : Task) (line : ScenariosLine) (asks : Asks words task) (are : AreScenariosOf task line) where
-  pub foreseen_has : (outcomes : List ScenarioOutcome) → IsAnswered shelf.before.held (scenarios_command line.problem.now line.changes.now) outcomes → HasEnd words shelf (Answered (Foreseen outcomes))
+  pub foreseen_has : (outcomes : List ScenarioOutcome) → IsAnswered shelf.before.held (scenarios_command line.problem.now line.changes.now) outcomes →
+      HasEnd words shelf (Answered (Foreseen outcomes))
   foreseen_has outcomes answered =
       let P : Task → Type 0 = λ t. IsAnswerOf shelf.before.held (command_of t) (Foreseen outcomes) in
       (task, asks, subst P (sym are) (record { own = outcomes; is = refl; answered = answered }))
@@ -399,7 +437,8 @@ few_workers words task line asks is =
 
 -- the line of a portfolio, and the end of its call
 module _ (words : List Word) (shelf : Fetches) (task : Task) (line : PortfolioLine) (asks : Asks words task) (is : IsPortfolioOf task line) where
-  pub ran_all_has : (runs : List RanValue) → IsAnswered shelf.before.held (portfolio_command line.list.now line.workers) runs → HasEnd words shelf (Answered (RanAll runs))
+  pub ran_all_has : (runs : List RanValue) → IsAnswered shelf.before.held (portfolio_command line.list.now line.workers) runs →
+      HasEnd words shelf (Answered (RanAll runs))
   ran_all_has runs answered =
       let P : Task → Type 0 = λ t. IsAnswerOf shelf.before.held (command_of t) (RanAll runs) in
       (task, asks, subst P (sym is) (record { own = runs; is = refl; answered = answered }))

@@ -39,7 +39,8 @@ pub fn hotel_files<'a>(
     forecast: &Name<'a>,
     bookings: &Name<'a>,
 ) -> HotelFiles<'a>
-    ensures { named result ≡ record { hotel = hotel.now; stays = stays.now; forecast = forecast.now; bookings = bookings.now } }
+    ensures { named result ≡
+        record { hotel = hotel.now; stays = stays.now; forecast = forecast.now; bookings = bookings.now } }
 {
     HotelFiles {
         hotel: hotel.text(),
@@ -88,7 +89,8 @@ pub fn answer<S: Shelf>(alloc: Global, shelf: &mut S, task: &Task<'_>) -> Result
     requires plain { IsPlainTask (asked task.now) }
     requires numbers { HasDemoNumbers (asked task.now) }
     ensures plain { IfOk result IsPlainAnswer }
-    ensures concludes { Concludes (over S.held S.faults S.fetches S.last S.steady shelf.old shelf.new) (command_of (asked task.now)) result }
+    ensures concludes { Concludes (over S.held S.faults S.fetches S.last S.steady shelf.old shelf.new)
+        (command_of (asked task.now)) result }
 {
     match task {
         Task::Check {

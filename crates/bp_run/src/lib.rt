@@ -1,4 +1,10 @@
 //! The whole program: from words and files to a status and a text.
+//!
+//! A line of words served with files and a sink in memory.
+//!
+//! ```
+//! let got = run(rt, alloc, &words, &mut shelf, &mut sink, &NoGate);
+//! ```
 #![tactic(auto)]
 
 mod commands;

@@ -7,7 +7,16 @@ ghost use Rattle.bp_run.specs.Fetches.{over};
 ghost use Rattle.bp_run.specs.Served.{IsPlainTask, MayStartThreads, IsDesk, AreScenarios, IsPortfolio};
 ghost use Rattle.bp_run.specs.Demo.{HasDemoNumbers};
 ghost use Rattle.bp_run.specs.Lines.{end_status};
-ghost use Rattle.bp_run.specs.Ends.{HasEnd, HasTaskEnd, HoldsAll, HasStopped, IsPlainEnd, IsDeskOf, AreScenariosOf, IsPortfolioOf};
+ghost use Rattle.bp_run.specs.Ends.{
+  HasEnd,
+  HasTaskEnd,
+  HoldsAll,
+  HasStopped,
+  IsPlainEnd,
+  IsDeskOf,
+  AreScenariosOf,
+  IsPortfolioOf,
+};
 ghost use Rattle.bp_run.specs.declared.status.Status.TheVariants.{Fault};
 
 use crate::commands::{desk, portfolio, scenarios};
@@ -131,8 +140,10 @@ fn end_of_portfolio<R: Wait + Threads + Sync, S: Shelf, G: Gate>(
     requires asks { Asks (texts words.now) (asked task.now) }
     requires no_desk { IsDesk (asked task.now) → ⊥ }
     requires no_scenarios { AreScenarios (asked task.now) → ⊥ }
-    ensures end { IfOk result (HasEnd (texts words.now) (over S.held S.faults S.fetches S.last S.steady shelf.old shelf.new)) }
-    ensures unfailing { S.steady shelf.old → HoldsAll (texts words.now) (S.held shelf.old) → IfOk result (λ end. end_status end ≢ Fault) }
+    ensures end { IfOk result
+        (HasEnd (texts words.now) (over S.held S.faults S.fetches S.last S.steady shelf.old shelf.new)) }
+    ensures unfailing { S.steady shelf.old → HoldsAll (texts words.now) (S.held shelf.old) →
+        IfOk result (λ end. end_status end ≢ Fault) }
 {
     law::tasks_are_unique();
     let Some(line) = portfolio_of(task) else {
@@ -157,8 +168,10 @@ fn end_beside_desk<R: Wait + Threads + Sync, S: Shelf, G: Gate>(
     requires may { MayStartThreads (texts words.now) }
     requires asks { Asks (texts words.now) (asked task.now) }
     requires no_desk { IsDesk (asked task.now) → ⊥ }
-    ensures end { IfOk result (HasEnd (texts words.now) (over S.held S.faults S.fetches S.last S.steady shelf.old shelf.new)) }
-    ensures unfailing { S.steady shelf.old → HoldsAll (texts words.now) (S.held shelf.old) → IfOk result (λ end. end_status end ≢ Fault) }
+    ensures end { IfOk result
+        (HasEnd (texts words.now) (over S.held S.faults S.fetches S.last S.steady shelf.old shelf.new)) }
+    ensures unfailing { S.steady shelf.old → HoldsAll (texts words.now) (S.held shelf.old) →
+        IfOk result (λ end. end_status end ≢ Fault) }
 {
     let Some(line) = scenarios_of(task) else {
         return end_of_portfolio(rt, alloc, words, shelf, task, gate);
@@ -179,8 +192,10 @@ pub fn end_with_threads<R: Wait + Threads + Sync, S: Shelf, G: Gate>(
     gate: &G,
 ) -> Result<End, Memory>
     requires { MayStartThreads (texts words.now) }
-    ensures end { IfOk result (HasEnd (texts words.now) (over S.held S.faults S.fetches S.last S.steady shelf.old shelf.new)) }
-    ensures unfailing { S.steady shelf.old → HoldsAll (texts words.now) (S.held shelf.old) → IfOk result (λ end. end_status end ≢ Fault) }
+    ensures end { IfOk result
+        (HasEnd (texts words.now) (over S.held S.faults S.fetches S.last S.steady shelf.old shelf.new)) }
+    ensures unfailing { S.steady shelf.old → HoldsAll (texts words.now) (S.held shelf.old) →
+        IfOk result (λ end. end_status end ≢ Fault) }
 {
     law::tasks_are_unique();
     let task = match parse(alloc, words) {

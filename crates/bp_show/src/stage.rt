@@ -17,7 +17,8 @@ use std::marker::Model;
 use std::snapshot::Snapshot;
 use std::sync::{Arc, Wait};
 
-/// What views look at, with the list of vectors that it has shown. It may end only where nobody reads it, so who ends it
+/// What views look at, with the list of vectors that it has shown. It may end only where nobody reads it, so who ends
+/// it
 /// has to be able to wait.
 ///
 /// Contracts see the list.

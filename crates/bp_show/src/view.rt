@@ -94,7 +94,9 @@ fn take_newest(reader: FaceReader, with: (&Arc<Chronicle>, usize)) -> (FaceReade
     requires index { with.1 < MOST_VIEWS }
     requires words { (arc_value with.0.now).shared.table_id.words ≡ 1 }
     ensures reader { view result.0.place ≡ view reader.place }
-    ensures found { IfSome result.1 (λ n. (n.seat.table_id ≡ (arc_value with.entry.0.now).shared.table_id) × (n.seat.me.1 ≡ []) × (n.seat.me.0.leads ≡ false) × (n.seat.me.0.claim ≡ n.vector ∷ []) × (n.seat.me.0.stamp ≡ n.stamp)) }
+    ensures found { IfSome result.1 (λ n. (n.seat.table_id ≡ (arc_value with.entry.0.now).shared.table_id) ×
+        (n.seat.me.1 ≡ []) × (n.seat.me.0.leads ≡ false) × (n.seat.me.0.claim ≡ n.vector ∷ []) ×
+        (n.seat.me.0.stamp ≡ n.stamp)) }
 {
     let (chronicle, index) = with;
     match reader.enter_as::<Sees>() {

@@ -1,7 +1,35 @@
 -- Lines of words: what is joined can be told apart, and is split into itself. A kind whose lines are words cites
 -- `joined_injective`, with `number_lacks` and `word_lacks` for its words, and of a line that it reads `split_joined`, or
 -- `split_back` where the words are known.
-use Rattle.std.proofs.Common.{◌≡◌, ◌≢◌, ℕ, zero, suc, ◌+◌, ◌<◌, ◌==◌, refl, ap, sym, ◌∙◌, arith, true, false, List, [], ◌∷◌, ◌++◌, length, map, take, drop, get_or, All, inl, inr}
+use Rattle.std.proofs.Common.{
+  ◌≡◌,
+  ◌≢◌,
+  ℕ,
+  zero,
+  suc,
+  ◌+◌,
+  ◌<◌,
+  ◌==◌,
+  refl,
+  ap,
+  sym,
+  ◌∙◌,
+  arith,
+  true,
+  false,
+  List,
+  [],
+  ◌∷◌,
+  ◌++◌,
+  length,
+  map,
+  take,
+  drop,
+  get_or,
+  All,
+  inl,
+  inr,
+}
 use Rattle.std.specs.Prelude.{not}
 use Rattle.std.specs.List.{list_all}
 use Rattle.std.proofs.lemmas.Bool.{cases_Bool, ne_eqb, eq-eqb, eqb-true, cond-true, cond-false}
@@ -74,12 +102,14 @@ split_other : (b : ℕ) (bs : List ℕ) → b ≢ 32 → split (b ∷ bs) ≡ in
 split_other b bs other = cond-false (b == 32) ([] ∷ split bs) (in_front b (split bs)) (ne_eqb b 32 other)
 
 -- up to the first space
-pub split_at_space : (bs : List ℕ) (n : ℕ) → n < length bs → ((k : ℕ) → k < n → get_or bs k 0 ≢ 32) → get_or bs n 0 ≡ 32 → split bs ≡ take n bs ∷ split (drop (n + 1) bs)
+pub split_at_space : (bs : List ℕ) (n : ℕ) → n < length bs → ((k : ℕ) → k < n → get_or bs k 0 ≢ 32) → get_or bs n 0 ≡ 32 →
+    split bs ≡ take n bs ∷ split (drop (n + 1) bs)
 split_at_space [] n within none stop = absurd (omega arith)
 split_at_space (b ∷ bs) zero within none stop = cond-true (b == 32) ([] ∷ split bs) (in_front b (split bs)) (eq-eqb b 32 stop)
 split_at_space (b ∷ bs) (suc n) within none stop =
     let rest = split_at_space bs n (omega arith) (λ k less. none (suc k) (omega arith)) stop in
-    split_other b bs (none 0 (omega arith)) ∙ ap (in_front b) rest ∙ ap (λ k. take (suc n) (b ∷ bs) ∷ split (drop k (b ∷ bs))) (let e : suc (n + 1) ≡ suc n + 1 = omega arith in e)
+    split_other b bs (none 0 (omega arith)) ∙ ap (in_front b) rest ∙
+    ap (λ k. take (suc n) (b ∷ bs) ∷ split (drop k (b ∷ bs))) (let e : suc (n + 1) ≡ suc n + 1 = omega arith in e)
 
 -- without a space
 pub split_whole : (bs : List ℕ) → ((k : ℕ) → k < length bs → get_or bs k 0 ≢ 32) → split bs ≡ bs ∷ []
@@ -88,12 +118,14 @@ split_whole (b ∷ bs) none = split_other b bs (none 0 (omega arith)) ∙ ap (in
 
 space_behind : (w : Word) (rest : List ℕ) → HasNoSpace w → split (w ++ 32 ∷ rest) ≡ w ∷ split rest
 space_behind [] rest none = refl
-space_behind (b ∷ w) rest none = split_other b (w ++ 32 ∷ rest) (none 0 0 (omega arith)) ∙ ap (in_front b) (space_behind w rest (λ k d less. none (suc k) d (omega arith)))
+space_behind (b ∷ w) rest none = split_other b (w ++ 32 ∷ rest) (none 0 0 (omega arith)) ∙
+    ap (in_front b) (space_behind w rest (λ k d less. none (suc k) d (omega arith)))
 
 -- words that are joined are split into themselves
 pub split_joined : (w : Word) (ws : List Word) → All HasNoSpace (w ∷ ws) → split (joined w ws) ≡ w ∷ ws
 split_joined w [] none = ap split (append-nil w) ∙ split_whole w (λ k less. none 0 [] (omega arith) k 0 less)
-split_joined w (v ∷ ws) none = space_behind w (joined v ws) (none 0 [] (omega arith)) ∙ ap (λ xs. w ∷ xs) (split_joined v ws (λ k d less. none (suc k) d (omega arith)))
+split_joined w (v ∷ ws) none = space_behind w (joined v ws) (none 0 [] (omega arith)) ∙
+    ap (λ xs. w ∷ xs) (split_joined v ws (λ k d less. none (suc k) d (omega arith)))
 
 -- a line is its words, joined
 
@@ -117,7 +149,8 @@ behind_space bs [] back e = absurd (some_word bs e)
 behind_space bs (v ∷ vs) back e = ap (λ x. 32 ∷ x) (back v vs e)
 
 -- what stands behind another byte of the first word
-behind_byte : (b : ℕ) (bs : List ℕ) (us : List Word) (w : Word) (ws : List Word) → ((v : Word) (vs : List Word) → split bs ≡ v ∷ vs → bs ≡ joined v vs) → split bs ≡ us
+behind_byte : (b : ℕ) (bs : List ℕ) (us : List Word) (w : Word) (ws : List Word) → ((v : Word) (vs : List Word) → split bs ≡ v ∷ vs → bs ≡ joined v vs) →
+    split bs ≡ us
     → in_front b us ≡ w ∷ ws → b ∷ bs ≡ joined w ws
 behind_byte b bs [] w ws back e f = absurd (some_word bs e)
 behind_byte b bs (v ∷ vs) w ws back e f =

@@ -35,7 +35,9 @@ module _ {B F E : Type 0} (fix : B → F) (story : B → List E) (caller : E →
     seen = prefix_self (story value);
     told = (story value, refl);
     own = λ _. (but_here (λ _. (0, hands_out)) 0 (0, logs) 0 refl, refl, all_of caller 0 (story value) first, all_of caller 0 (story value) first);
-    free = All-weaker (λ n. (1 ≤ n) × (n < 1 + (CALLERS - 1))) (IsFree caller opening_past 0) (λ n h. let l = h.0 in let m = h.1 in (omega arith, but_else (λ _. (0, hands_out)) 0 (0, logs) n (λ e. omega arith), refl, none_of caller 0 n (story value) (λ e. omega arith) first)) numbers_to_hand_out (run_between 1 (CALLERS - 1));
+    free = All-weaker (λ n. (1 ≤ n) × (n < 1 + (CALLERS - 1))) (IsFree caller opening_past 0) (λ n h. let l = h.0 in let m = h.1 in
+        (omega arith, but_else (λ _. (0, hands_out)) 0 (0, logs) n (λ e. omega arith), refl, none_of caller 0 n (story value) (λ e. omega arith) first))
+        numbers_to_hand_out (run_between 1 (CALLERS - 1));
     ended = All-nil (IsEnded caller opening_past 0 (story value));
     ticket = λ i. absurd (cc);
     turn = λ i. absurd (cc);
@@ -43,8 +45,10 @@ module _ {B F E : Type 0} (fix : B → F) (story : B → List E) (caller : E →
 
   opener_has : (n : ℕ) → n < CALLERS → There (opener ∷ []) (roles n).0 (λ v. HasPart n (roles n).1 v.number v.free v.ended)
   opener_has n l = dite (ℕ_discrete n 0)
-      (λ e. subst (λ (x : ℕ × Part). There (opener ∷ []) x.0 (λ v. HasPart n x.1 v.number v.free v.ended)) (sym (but_here (λ _. (0, hands_out)) 0 (0, logs) n e)) (opener, refl, sym e))
-      (λ ne. subst (λ (x : ℕ × Part). There (opener ∷ []) x.0 (λ v. HasPart n x.1 v.number v.free v.ended)) (sym (but_else (λ _. (0, hands_out)) 0 (0, logs) n ne)) (opener, refl, run_contains 1 (CALLERS - 1) n (omega arith) (omega arith)))
+      (λ e. subst (λ (x : ℕ × Part). There (opener ∷ []) x.0 (λ v. HasPart n x.1 v.number v.free v.ended))
+      (sym (but_here (λ _. (0, hands_out)) 0 (0, logs) n e)) (opener, refl, sym e))
+      (λ ne. subst (λ (x : ℕ × Part). There (opener ∷ []) x.0 (λ v. HasPart n x.1 v.number v.free v.ended))
+      (sym (but_else (λ _. (0, hands_out)) 0 (0, logs) n ne)) (opener, refl, run_contains 1 (CALLERS - 1) n (omega arith) (omega arith)))
 
   pub opens : FollowsRule fix story caller (fix value) (opening (length (story value) ∷ 0 ∷ 0 ∷ []) (Some value ∷ []) opener)
   opens = record {
@@ -69,7 +73,8 @@ module _ {B F E : Type 0} (fix : B → F) (story : B → List E) (caller : E →
 
   pub opener_at_rest : IsAtRest {B = B} caller (opener, [])
   opener_at_rest = record {
-    sound = sound_of caller (fix value) opening_past 0 opener opener_fits (λ n l. none_of caller 0 n (story value) (λ e. omega arith) first) (omega arith) (fix value, refl) (All-nil (λ t. t ≤ length (story value)));
+    sound = sound_of caller (fix value) opening_past 0 opener opener_fits (λ n l. none_of caller 0 n (story value) (λ e. omega arith) first) (omega arith)
+        (fix value, refl) (All-nil (λ t. t ≤ length (story value)));
     ticket = refl;
     slot = refl;
   }

@@ -35,7 +35,8 @@ module _ {B F E : Type 0} where
 module _ {B F E : Type 0} (fix : B → F) (story : B → List E) (caller : E → ℕ) where
   -- the seat has the turn and the value, whose story begins with what it had seen
   abbrev pub Took : Sat B F E → Sat B F E → Type 0
-  Took m m' = (b : B) × (m' ≡ (view_at_turn m.0 (story b), (0, Some b) ∷ m.1)) × ((f : F) → m.0.fixed ≡ Some f → m.0.fixed ≡ Some (fix b)) × IsPrefix m.0.seen (story b) × (IsSoundView caller m.0 → IsSoundView caller (view_at_turn m.0 (story b)))
+  Took m m' = (b : B) × (m' ≡ (view_at_turn m.0 (story b), (0, Some b) ∷ m.1)) × ((f : F) → m.0.fixed ≡ Some f → m.0.fixed ≡ Some (fix b)) ×
+      IsPrefix m.0.seen (story b) × (IsSoundView caller m.0 → IsSoundView caller (view_at_turn m.0 (story b)))
 
   -- at its own ticket the seat has the turn; at another nothing changed
   abbrev pub Called : Step (Option B) → Sat B F E → ℕ → Sat B F E → Type 0
@@ -43,7 +44,8 @@ module _ {B F E : Type 0} (fix : B → F) (story : B → List E) (caller : E →
 
   -- the entry by which the value in the slot goes beyond what was seen is in the history
   abbrev pub Logged : Step (Option B) → Sat B F E → ℕ → Sat B F E → Type 0
-  Logged st m r m' = (b : B) (e : E) → m.1 ≡ (0, Some b) ∷ [] → story b ≡ m.0.seen ++ e ∷ [] → (m' ≡ (view_with_entry m.0 e, m.1)) × (IsSoundView caller m.0 → IsSoundView caller (view_with_entry m.0 e))
+  Logged st m r m' = (b : B) (e : E) → m.1 ≡ (0, Some b) ∷ [] → story b ≡ m.0.seen ++ e ∷ [] →
+      (m' ≡ (view_with_entry m.0 e, m.1)) × (IsSoundView caller m.0 → IsSoundView caller (view_with_entry m.0 e))
 
   -- after a seat was joined in: the shorter list is a prefix of the longer, both had the same fixed part, and what is kept agrees with what was seen
   abbrev pub Learnt : Step (Option B) → Sat B F E → ℕ → Sat B F E → Type 0

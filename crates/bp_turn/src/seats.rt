@@ -15,7 +15,8 @@ use crate::turn::{Memory, Turn};
 use std::alloc::Global;
 
 impl<B: Story> Turn<B> {
-    /// A new seat with the number, which has seen as much. A seat has no bytes, so no memory is taken and the answer is never `Memory`.
+    /// A new seat with the number, which has seen as much. A seat has no bytes, so no memory is taken and the answer is
+    /// never `Memory`.
     pub fn split(
         &self,
         _alloc: Global,
@@ -51,7 +52,8 @@ impl<B: Story> Turn<B> {
         self.absorb(&mut seat.place, place);
     }
 
-    /// Each of two seats learns what the other has seen. A seat has no bytes, so no memory is taken and the answer is never `Memory`.
+    /// Each of two seats learns what the other has seen. A seat has no bytes, so no memory is taken and the answer is
+    /// never `Memory`.
     pub fn meet(
         &self,
         _alloc: Global,

@@ -92,7 +92,8 @@ fn add_hundred<R: Wait>(
 // A turn that adds nothing.
 fn pass_by<B: Story, R: Wait>(rt: &R, turn: &Turn<B>, mut seat: TurnSeat<B>) -> TurnSeat<B>
     requires { (seat.lock ≡ turn.now) × (seat.has_turn ≡ false) }
-    ensures { (result.lock ≡ turn.now) × (result.has_turn ≡ false) × (result.number ≡ seat.number) × (result.own ≡ seat.own) }
+    ensures { (result.lock ≡ turn.now) × (result.has_turn ≡ false) × (result.number ≡ seat.number) ×
+        (result.own ≡ seat.own) }
 {
     let value = turn.take(rt, &mut seat);
     turn.give(&mut seat, value);

@@ -47,7 +47,8 @@ impl<B: Story> Model for Turn<B> {
 }
 
 impl<B: Story + Drop> Turn<B> {
-    /// A lock over the value, and its first seat, which has the number 0 and may hand out the others below `CALLERS`. Without memory the value is dropped.
+    /// A lock over the value, and its first seat, which has the number 0 and may hand out the others below `CALLERS`.
+    /// Without memory the value is dropped.
     pub fn new(alloc: Global, value: B) -> Result<(Turn<B>, TurnSeat<B>), Memory>
         requires { All (λ (e : B.Entry). B.caller e ≡ 0) (B.story value) }
         ensures { IfOk result (λ r. r.1 ≡ first_seat r.0 (B.fixed value) (B.story value)) }
@@ -109,7 +110,8 @@ impl<B: Story> Turn<B> {
         self.serve_next(&mut seat.place);
     }
 
-    /// Gives the value back with one entry more, which the seat made, and ends the turn. The one atomic step that raises the length makes the entry part of the history.
+    /// Gives the value back with one entry more, which the seat made, and ends the turn. The one atomic step that
+    /// raises the length makes the entry part of the history.
     pub fn give_logged(&self, seat: &mut TurnSeat<B>, value: B)
         requires lock { seat.old.lock ≡ self.now }
         requires turn { seat.old.has_turn ≡ true }
@@ -125,7 +127,8 @@ impl<B: Story> Turn<B> {
             } }
     {
         let _length = value.length();
-        // The value goes back into the slot before the step on the length, since that step reads the entry there. The seat holds the slot until the next ticket is served, so no other thread can touch it in between.
+        // The value goes back into the slot before the step on the length, since that step reads the entry there. The
+        // seat holds the slot until the next ticket is served, so no other thread can touch it in between.
         self.put_back(&mut seat.place, value);
         self.table
             .shared
@@ -169,7 +172,9 @@ impl<B: Story> Turn<B> {
         self.door.ring_for_one();
     }
 
-    // Sleeps before it draws a ticket, until no ticket is out: else each turn would wait for the one thread that is next to wake up. After some sleeps it goes on all the same, so that threads that came later do not pass it for ever.
+    // Sleeps before it draws a ticket, until no ticket is out: else each turn would wait for the one thread that is
+    // next to wake up. After some sleeps it goes on all the same, so that threads that came later do not pass it for
+    // ever.
     fn approach<R: Wait>(&self, rt: &R) {
         for _ in 0..PATIENCE {
             if self.is_free() {

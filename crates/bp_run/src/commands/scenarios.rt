@@ -50,7 +50,8 @@ pub fn answer<R: Threads + Sync, S: Shelf>(
     problem: &str,
     changes: &str,
 ) -> Result<Outcomes, Stop>
-    ensures { Brings (over S.held S.faults S.fetches S.last S.steady shelf.old shelf.new) (scenarios_command problem.now changes.now) result }
+    ensures { Brings (over S.held S.faults S.fetches S.last S.steady shelf.old shelf.new)
+        (scenarios_command problem.now changes.now) result }
 {
     let base = load(alloc, shelf, &ProblemFile, 1, problem)?;
     let file = ScenariosFile { problem: &base };
@@ -79,7 +80,8 @@ pub fn answer_alone<S: Shelf>(
     problem: &str,
     changes: &str,
 ) -> Result<Outcomes, Stop>
-    ensures { Brings (over S.held S.faults S.fetches S.last S.steady shelf.old shelf.new) (scenarios_command problem.now changes.now) result }
+    ensures { Brings (over S.held S.faults S.fetches S.last S.steady shelf.old shelf.new)
+        (scenarios_command problem.now changes.now) result }
 {
     let base = load(alloc, shelf, &ProblemFile, 1, problem)?;
     let lists = load(alloc, shelf, &ScenariosFile { problem: &base }, 2, changes)?;

@@ -9,4 +9,5 @@ where_ok (Ok c) Is p q h s same = subst (λ (x : Program). Is x c) same (h s)
 where_ok (Err e) Is p q h s same = tt
 
 pub returns : goal.returns
-returns g c = where_ok c.certificate.result IsLeastCertificate _ _ c.certificate.ensures.least c.in_ok-solver.ensures.solver.settled (c.in_ok-solver.ensures.solver.solves ∙ c.in_ok-instance.ensures)
+returns g c = where_ok c.certificate.result IsLeastCertificate _ _ c.certificate.ensures.least c.in_ok-solver.ensures.solver.settled
+    (c.in_ok-solver.ensures.solver.solves ∙ c.in_ok-instance.ensures)

@@ -78,7 +78,8 @@ returns-then-level-gt0-clause-ways t c =
     let len = c.push_above.ensures.len in
     let same = c.push_above.ensures.ways.len in
     same_ways c.args.levels c.args.amounts.now c.push_above.new.amounts c.push.new.amounts c.push_above.ensures.ways
-    (push_ways c.args.levels (c.args.level - 1) (c.args.node / 2) c.push_above.new.amounts c.push.new.amounts (omega arith) on (omega arith) c.push.ensures.amounts)
+    (push_ways c.args.levels (c.args.level - 1) (c.args.node / 2) c.push_above.new.amounts c.push.new.amounts (omega arith) on (omega arith)
+    c.push.ensures.amounts)
 
 pub returns-then-level-gt0-clause-none : goal.returns-then-level-gt0-clause-none
 returns-then-level-gt0-clause-none t c =
@@ -90,7 +91,8 @@ returns-then-level-gt0-clause-none t c =
     let one = width_some (c.args.level - 1) in
     let len = c.push_above.ensures.len in
     let same = c.push_above.ensures.ways.len in
-    push_clears c.args.level (c.args.level - 1) (c.args.node / 2) c.args.node c.push_above.new.amounts c.push.new.amounts up refl (omega arith) c.push.ensures.amounts c.push_above.ensures.none
+    push_clears c.args.level (c.args.level - 1) (c.args.node / 2) c.args.node c.push_above.new.amounts c.push.new.amounts up refl (omega arith)
+    c.push.ensures.amounts c.push_above.ensures.none
 
 pub returns-then-level-gt0-clause-inner : goal.returns-then-level-gt0-clause-inner
 returns-then-level-gt0-clause-inner t c =
@@ -103,7 +105,8 @@ returns-then-level-gt0-clause-inner t c =
     let len = c.push_above.ensures.len in
     let same = c.push_above.ensures.ways.len in
     rw c.push.ensures.leasts
-    (push_inner c.args.levels c.push_above.new.leasts c.push_above.new.amounts c.push.new.amounts (c.args.node / 2) (omega arith) (omega arith) (omega arith) c.push.ensures.amounts c.push_above.ensures.inner)
+    (push_inner c.args.levels c.push_above.new.leasts c.push_above.new.amounts c.push.new.amounts (c.args.node / 2) (omega arith) (omega arith) (omega arith)
+    c.push.ensures.amounts c.push_above.ensures.inner)
 
 pub returns-then-level-gt0-clause-leaves : goal.returns-then-level-gt0-clause-leaves
 returns-then-level-gt0-clause-leaves t c = λ m g.
@@ -115,4 +118,6 @@ returns-then-level-gt0-clause-leaves t c = λ m g.
     let one = width_some (c.args.level - 1) in
     let len = c.push_above.ensures.len in
     let same = c.push_above.ensures.ways.len in
-    rw c.push.ensures.leasts (at_other c.push_above.new.leasts m (c.args.node / 2) (kept_at c.push_above.new.leasts c.push_above.new.amounts (c.args.node / 2)) (omega arith) ∙ c.push_above.ensures.leaves m g)
+    rw c.push.ensures.leasts
+    (at_other c.push_above.new.leasts m (c.args.node / 2) (kept_at c.push_above.new.leasts c.push_above.new.amounts (c.args.node / 2)) (omega arith) ∙
+    c.push_above.ensures.leaves m g)

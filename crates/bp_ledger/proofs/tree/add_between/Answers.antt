@@ -16,8 +16,12 @@ overflow_add-amounts-3 c =
     elim (share_right_is c.args.right c.args.units) [
       | inl even ↦ let e = c.beside_right.ensures in let f = even.1 in omega arith
       | inr odd ↦ rw (c.beside_left.ensures, c.beside_right.ensures)
-          (let kept = mid_right c.args.amounts.now c.args.left c.args.right c.args.units lr (omega arith) odd.0 in let f = odd.1 in let g = fits odd.0 in omega arith)
+          (let kept = mid_right c.args.amounts.now c.args.left c.args.right c.args.units lr (omega arith) odd.0 in let f = odd.1 in let g = fits odd.0 in
+          omega arith)
     ]
 
 pub returns : goal.returns
-returns c = rw (c.beside_left.ensures, c.beside_right.ensures) (added c.args.amounts.now c.args.left c.args.right c.args.units c.requires.ordered c.requires.within c.requires.apart)
+returns c = rw (
+  c.beside_left.ensures,
+  c.beside_right.ensures,
+) (added c.args.amounts.now c.args.left c.args.right c.args.units c.requires.ordered c.requires.within c.requires.apart)

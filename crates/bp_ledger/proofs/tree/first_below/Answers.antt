@@ -6,7 +6,8 @@ use Rattle.bp_ledger.proofs.tree.first_below.Goals as goal
 use Rattle.bp_ledger.proofs.tree.first_below.Goals.{then-saturating_sub-units, else-saturating_sub-units}
 
 pub loop-level-init : goal.loop-level-init
-loop-level-init c = descend_start c.args.levels c.args.top c.args.node c.args.higher c.args.units c.args.leasts.now c.args.amounts.now c.requires.node c.requires.higher (omega arith) c.requires.short
+loop-level-init c = descend_start c.args.levels c.args.top c.args.node c.args.higher c.args.units c.args.leasts.now c.args.amounts.now c.requires.node
+    c.requires.higher (omega arith) c.requires.short
 
 pub bounds-amounts-at : goal.bounds-amounts-at
 bounds-amounts-at c =
@@ -45,26 +46,35 @@ kept-requires-clause-amounts c =
 
 pub loop-level-preserved : goal.loop-level-preserved
 loop-level-preserved c =
-    let small : kept_at c.args.leasts.now c.args.amounts.now (c.loop-level.at * 2) < 18446744073709551616 = (let fits = c.type_inv.leasts (c.loop-level.at * 2) in omega arith) in
-    let P : ℕ → Type 0 = λ k. IsDescending c.args.levels c.args.top c.args.node (c.loop-level._level + 1) k c.saturating_add-sum.result c.args.units c.args.leasts.now c.args.amounts.now in
+    let small : kept_at c.args.leasts.now c.args.amounts.now (c.loop-level.at * 2) < 18446744073709551616 =
+    (let fits = c.type_inv.leasts (c.loop-level.at * 2) in omega arith) in
+    let P : ℕ → Type 0 = λ k. IsDescending c.args.levels c.args.top c.args.node (c.loop-level._level + 1)
+    k c.saturating_add-sum.result c.args.units c.args.leasts.now c.args.amounts.now in
     elim c.if-saturating_sub-units.branch [
-      | then-saturating_sub-units w ↦ subst P (sym w.at-is) (descend_right c.args.levels c.args.top c.args.node c.loop-level._level c.loop-level.at c.loop-level.sum c.args.units c.saturating_add-sum.result
+      | then-saturating_sub-units w ↦
+          subst P (sym w.at-is) (descend_right c.args.levels c.args.top c.args.node c.loop-level._level c.loop-level.at c.loop-level.sum c.args.units
+          c.saturating_add-sum.result
           c.args.leasts.now c.args.amounts.now c.loop-level.invariant (omega arith) c.requires.inner (omega arith) small (omega arith))
-      | else-saturating_sub-units w ↦ subst P (sym w.at-is) (descend_left c.args.levels c.args.top c.args.node c.loop-level._level c.loop-level.at c.loop-level.sum c.args.units c.saturating_add-sum.result
+      | else-saturating_sub-units w ↦
+          subst P (sym w.at-is) (descend_left c.args.levels c.args.top c.args.node c.loop-level._level c.loop-level.at c.loop-level.sum c.args.units
+          c.saturating_add-sum.result
           c.args.leasts.now c.args.amounts.now c.loop-level.invariant (omega arith) (omega arith) small (omega arith))
     ]
 
 pub returns-clause-below : goal.returns-clause-below
 returns-clause-below c =
     let end = c.loop-level.auto._level-end c.requires.top in
-    (descend_done c.args.levels c.args.top c.args.node c.loop-level._level c.loop-level.at c.loop-level.sum c.args.units c.args.leasts.now c.args.amounts.now c.loop-level.invariant (omega arith)).below
+    (descend_done c.args.levels c.args.top c.args.node c.loop-level._level c.loop-level.at c.loop-level.sum c.args.units c.args.leasts.now c.args.amounts.now
+    c.loop-level.invariant (omega arith)).below
 
 pub returns-clause-before : goal.returns-clause-before
 returns-clause-before c =
     let end = c.loop-level.auto._level-end c.requires.top in
-    (descend_done c.args.levels c.args.top c.args.node c.loop-level._level c.loop-level.at c.loop-level.sum c.args.units c.args.leasts.now c.args.amounts.now c.loop-level.invariant (omega arith)).before
+    (descend_done c.args.levels c.args.top c.args.node c.loop-level._level c.loop-level.at c.loop-level.sum c.args.units c.args.leasts.now c.args.amounts.now
+    c.loop-level.invariant (omega arith)).before
 
 pub returns-clause-short : goal.returns-clause-short
 returns-clause-short c =
     let end = c.loop-level.auto._level-end c.requires.top in
-    (descend_done c.args.levels c.args.top c.args.node c.loop-level._level c.loop-level.at c.loop-level.sum c.args.units c.args.leasts.now c.args.amounts.now c.loop-level.invariant (omega arith)).short
+    (descend_done c.args.levels c.args.top c.args.node c.loop-level._level c.loop-level.at c.loop-level.sum c.args.units c.args.leasts.now c.args.amounts.now
+    c.loop-level.invariant (omega arith)).short

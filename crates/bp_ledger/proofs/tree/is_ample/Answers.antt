@@ -35,7 +35,9 @@ offset_bounds-amounts-right c =
     omega arith
 
 pub loop-left-preserved : goal.loop-left-preserved
-loop-left-preserved c = checked_step c.args.low c.args.high c.args.units c.args.levels c.loop-left.left c.loop-left.right c.args.amounts.now c.loop-left.invariant c.loop-left-test.true (omega arith) (omega arith)
+loop-left-preserved c = checked_step c.args.low c.args.high c.args.units c.args.levels c.loop-left.left c.loop-left.right c.args.amounts.now
+    c.loop-left.invariant c.loop-left-test.true (omega arith) (omega arith)
 
 pub returns : goal.returns
-returns c = λ e. checked_done c.args.low c.args.high c.args.units c.args.levels c.loop-left.left c.loop-left.right c.args.amounts.now c.loop-left.invariant c.loop-left-test.false
+returns c = λ e. checked_done c.args.low c.args.high c.args.units c.args.levels c.loop-left.left c.loop-left.right c.args.amounts.now c.loop-left.invariant
+    c.loop-left-test.false

@@ -85,16 +85,23 @@ offset_bounds-amounts-left-in-loop-left-2 c =
     omega arith
 
 pub loop-left-preserved : goal.loop-left-preserved
-loop-left-preserved c = look_step c.args.levels c.args.low c.args.high c.args.leasts.now c.args.amounts.now c.loop-left.left c.loop-left.right c.loop-left.left_least c.loop-left.right_least
-    c.least_beside_left-with_left.result c.least_beside_right-with_right.result _ _ c.requires.low c.requires.high c.requires.inner c.loop-left.invariant c.loop-left-test.true
-    c.least_beside_left-with_left.ensures.own c.least_beside_left-with_left.ensures.even c.least_beside_right-with_right.ensures.own c.least_beside_right-with_right.ensures.odd (omega arith) (omega arith)
+loop-left-preserved c = look_step c.args.levels c.args.low c.args.high c.args.leasts.now c.args.amounts.now c.loop-left.left c.loop-left.right
+    c.loop-left.left_least c.loop-left.right_least
+    c.least_beside_left-with_left.result c.least_beside_right-with_right.result _ _ c.requires.low c.requires.high c.requires.inner c.loop-left.invariant
+    c.loop-left-test.true
+    c.least_beside_left-with_left.ensures.own c.least_beside_left-with_left.ensures.even c.least_beside_right-with_right.ensures.own
+    c.least_beside_right-with_right.ensures.odd (omega arith) (omega arith)
 
 pub loop-left-2-init : goal.loop-left-2-init
-loop-left-2-init c = look_met c.args.levels c.args.low c.args.high c.args.leasts.now c.args.amounts.now c.loop-left.left c.loop-left.right c.loop-left.left_least c.loop-left.right_least _
+loop-left-2-init c = look_met c.args.levels c.args.low c.args.high c.args.leasts.now c.args.amounts.now c.loop-left.left c.loop-left.right
+    c.loop-left.left_least c.loop-left.right_least _
     c.loop-left.invariant c.loop-left-test.false (omega arith)
 
 pub loop-left-2-preserved : goal.loop-left-2-preserved
-loop-left-2-preserved c = climb_step c.args.levels c.args.low c.args.high c.args.leasts.now c.args.amounts.now c.loop-left-2.left c.loop-left-2.least _ c.loop-left-2.invariant c.loop-left-2-test.true (omega arith)
+loop-left-2-preserved c =
+    climb_step c.args.levels c.args.low c.args.high c.args.leasts.now c.args.amounts.now c.loop-left-2.left c.loop-left-2.least _ c.loop-left-2.invariant
+    c.loop-left-2-test.true (omega arith)
 
 pub returns : goal.returns
-returns c = climb_done c.args.levels c.args.low c.args.high c.args.leasts.now c.args.amounts.now c.loop-left-2.left c.loop-left-2.least c.loop-left-2.invariant (omega arith)
+returns c = climb_done c.args.levels c.args.low c.args.high c.args.leasts.now c.args.amounts.now c.loop-left-2.left c.loop-left-2.least
+    c.loop-left-2.invariant (omega arith)

@@ -13,7 +13,8 @@ overflow_sub-amounts c =
     omega arith
 
 pub bring_up-requires-clause-inner : goal.bring_up-requires-clause-inner
-bring_up-requires-clause-inner c = λ x low high. leaf_inner c.args.levels c.push_above.new.leasts c.push_above.new.amounts c.args.leaf x _ low high c.push_above.ensures.inner
+bring_up-requires-clause-inner c =
+    λ x low high. leaf_inner c.args.levels c.push_above.new.leasts c.push_above.new.amounts c.args.leaf x _ low high c.push_above.ensures.inner
 
 pub returns-clause-taken : goal.returns-clause-taken
 returns-clause-taken c =
@@ -22,4 +23,5 @@ returns-clause-taken c =
     let same = c.push_above.ensures.ways.ways c.args.leaf c.requires.leaf in
     let len = c.push_above.ensures.ways.len in
     let on = c.requires.leaf in
-    leaf_taken c.args.levels c.args.amounts.now c.push_above.new.amounts c.args.leaf c.args.units c.requires.leaf (omega arith) c.push_above.ensures.ways (omega arith)
+    leaf_taken c.args.levels c.args.amounts.now c.push_above.new.amounts c.args.leaf c.args.units c.requires.leaf (omega arith) c.push_above.ensures.ways
+    (omega arith)

@@ -23,10 +23,14 @@ subtract_between-requires-clause-within c =
     omega arith
 
 pub subtract_between-requires-clause-left : goal.subtract_between-requires-clause-left
-subtract_between-requires-clause-left c = (ample_turn c.args.levels c.args.low c.args.high c.loop-left.left c.loop-left.right c.args.units c.args.amounts.now c.loop-left.amounts c.loop-left.invariant.taking c.requires.ample c.loop-left-test.true).0
+subtract_between-requires-clause-left c =
+    (ample_turn c.args.levels c.args.low c.args.high c.loop-left.left c.loop-left.right c.args.units c.args.amounts.now c.loop-left.amounts
+    c.loop-left.invariant.taking c.requires.ample c.loop-left-test.true).0
 
 pub subtract_between-requires-clause-right : goal.subtract_between-requires-clause-right
-subtract_between-requires-clause-right c = (ample_turn c.args.levels c.args.low c.args.high c.loop-left.left c.loop-left.right c.args.units c.args.amounts.now c.loop-left.amounts c.loop-left.invariant.taking c.requires.ample c.loop-left-test.true).1
+subtract_between-requires-clause-right c =
+    (ample_turn c.args.levels c.args.low c.args.high c.loop-left.left c.loop-left.right c.args.units c.args.amounts.now c.loop-left.amounts
+    c.loop-left.invariant.taking c.requires.ample c.loop-left-test.true).1
 
 pub refresh-requires-clause-leasts : goal.refresh-requires-clause-leasts
 refresh-requires-clause-leasts c =
@@ -69,11 +73,13 @@ loop-left-preserved c =
     let low : ℕ = c.loop-left.left in
     let high : ℕ = c.loop-left.right in
     rw (c.refresh-in-loop-left.ensures, c.refresh.ensures) (record {
-      taking = releasing_step c.args.levels c.args.low c.args.high low high c.args.units c.args.amounts.now c.loop-left.amounts c.subtract_between.new.amounts c.loop-left.invariant.taking c.requires.low c.requires.high c.loop-left-test.true c.subtract_between.ensures;
+      taking = releasing_step c.args.levels c.args.low c.args.high low high c.args.units c.args.amounts.now c.loop-left.amounts c.subtract_between.new.amounts
+          c.loop-left.invariant.taking c.requires.low c.requires.high c.loop-left-test.true c.subtract_between.ensures;
       len = turn_length c.loop-left.leasts c.subtract_between.new.amounts low high ∙ len;
       leaves = turn_leaves c.args.levels c.args.leasts.now c.loop-left.leasts c.subtract_between.new.amounts low high w.0 w.1 c.loop-left.invariant.leaves;
       inner = turn_inner c.args.levels c.loop-left.leasts c.loop-left.amounts c.subtract_between.new.amounts low high (omega arith) w.0 w.1
-          (λ k p q. sym (shared_apart low high c.args.units c.subtract_between.new.amounts c.loop-left.amounts c.subtract_between.ensures w.0 k p q)) c.loop-left.invariant.inner;
+          (λ k p q. sym (shared_apart low high c.args.units c.subtract_between.new.amounts c.loop-left.amounts c.subtract_between.ensures w.0 k p q))
+          c.loop-left.invariant.inner;
     })
 
 pub bring_up-requires-clause-from : goal.bring_up-requires-clause-from
@@ -85,7 +91,11 @@ bring_up-requires-clause-from c =
     omega arith
 
 pub bring_up-requires-clause-inner : goal.bring_up-requires-clause-inner
-bring_up-requires-clause-inner c = λ x low high. inner_met c.args.levels c.loop-left.leasts c.loop-left.amounts c.loop-left.left c.loop-left.right x c.loop-left-test.false low high c.loop-left.invariant.inner
+bring_up-requires-clause-inner c =
+    λ x low high. inner_met c.args.levels c.loop-left.leasts c.loop-left.amounts c.loop-left.left c.loop-left.right x c.loop-left-test.false low high
+    c.loop-left.invariant.inner
 
 pub returns-clause-taken : goal.returns-clause-taken
-returns-clause-taken c = take_done c.args.levels c.args.low c.args.high c.loop-left.left c.loop-left.right c.args.units c.loop-left.amounts c.args.amounts.now c.loop-left.invariant.taking.taking c.loop-left-test.false
+returns-clause-taken c =
+    take_done c.args.levels c.args.low c.args.high c.loop-left.left c.loop-left.right c.args.units c.loop-left.amounts c.args.amounts.now
+    c.loop-left.invariant.taking.taking c.loop-left-test.false

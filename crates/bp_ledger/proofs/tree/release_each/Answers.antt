@@ -15,7 +15,8 @@ pub release_at-requires-clause-leaf : goal.release_at-requires-clause-leaf
 release_at-requires-clause-leaf c = let low = c.requires.low in let high = c.requires.high in (omega arith, omega arith)
 
 pub release_at-requires-clause-fits : goal.release_at-requires-clause-fits
-release_at-requires-clause-fits c = taken_fits c.args.levels c.args.low c.loop-leaf.leaf c.args.units c.args.amounts.now c.loop-leaf.amounts c.loop-leaf.invariant.taken c.requires.fits
+release_at-requires-clause-fits c =
+    taken_fits c.args.levels c.args.low c.loop-leaf.leaf c.args.units c.args.amounts.now c.loop-leaf.amounts c.loop-leaf.invariant.taken c.requires.fits
 
 pub release_at-requires-clause-sold : goal.release_at-requires-clause-sold
 release_at-requires-clause-sold c =
@@ -32,7 +33,8 @@ loop-leaf-preserved c =
     let high = c.requires.high in
     let on : IsOnLevel c.args.levels c.loop-leaf.leaf = (omega arith, omega arith) in
     record {
-      taken = taken_next c.args.levels c.args.low c.loop-leaf.leaf c.args.units c.args.amounts.now c.loop-leaf.amounts c.release_at.new.amounts c.requires.low on (omega arith) c.loop-leaf.invariant.taken c.release_at.ensures.taken;
+      taken = taken_next c.args.levels c.args.low c.loop-leaf.leaf c.args.units c.args.amounts.now c.loop-leaf.amounts c.release_at.new.amounts c.requires.low
+          on (omega arith) c.loop-leaf.invariant.taken c.release_at.ensures.taken;
       len = c.release_at.ensures.len ∙ c.loop-leaf.invariant.len;
       leaves = λ m g. c.release_at.ensures.leaves m g ∙ c.loop-leaf.invariant.leaves m g;
       inner = c.release_at.ensures.inner;

@@ -26,13 +26,15 @@ pub add_between-requires-clause-left : goal.add_between-requires-clause-left
 add_between-requires-clause-left c = λ even.
     let lr = c.loop-left.invariant.taking.across.ordered in
     let apart = c.loop-left-test.true in
-    between_fits c.args.levels c.args.low c.args.high c.loop-left.left c.loop-left.right c.args.units (c.loop-left.left + 1) 18446744073709551616 c.args.amounts.now c.loop-left.amounts c.loop-left.invariant.taking (omega arith) (omega arith) c.requires.left
+    between_fits c.args.levels c.args.low c.args.high c.loop-left.left c.loop-left.right c.args.units (c.loop-left.left + 1)
+    18446744073709551616 c.args.amounts.now c.loop-left.amounts c.loop-left.invariant.taking (omega arith) (omega arith) c.requires.left
 
 pub add_between-requires-clause-right : goal.add_between-requires-clause-right
 add_between-requires-clause-right c = λ odd.
     let lr = c.loop-left.invariant.taking.across.ordered in
     let apart = c.loop-left-test.true in
-    between_fits c.args.levels c.args.low c.args.high c.loop-left.left c.loop-left.right c.args.units (c.loop-left.right - 1) 18446744073709551616 c.args.amounts.now c.loop-left.amounts c.loop-left.invariant.taking (omega arith) (omega arith) c.requires.left
+    between_fits c.args.levels c.args.low c.args.high c.loop-left.left c.loop-left.right c.args.units (c.loop-left.right - 1)
+    18446744073709551616 c.args.amounts.now c.loop-left.amounts c.loop-left.invariant.taking (omega arith) (omega arith) c.requires.left
 
 pub refresh-requires-clause-leasts : goal.refresh-requires-clause-leasts
 refresh-requires-clause-leasts c =
@@ -75,7 +77,8 @@ loop-left-preserved c =
     let low : ℕ = c.loop-left.left in
     let high : ℕ = c.loop-left.right in
     rw (c.refresh-in-loop-left.ensures, c.refresh.ensures) (record {
-      taking = take_step c.args.levels c.args.low c.args.high low high c.args.units c.args.amounts.now c.loop-left.amounts c.add_between.new.amounts c.loop-left.invariant.taking c.requires.low c.requires.high c.loop-left-test.true c.add_between.ensures;
+      taking = take_step c.args.levels c.args.low c.args.high low high c.args.units c.args.amounts.now c.loop-left.amounts c.add_between.new.amounts
+          c.loop-left.invariant.taking c.requires.low c.requires.high c.loop-left-test.true c.add_between.ensures;
       len = turn_length c.loop-left.leasts c.add_between.new.amounts low high ∙ len;
       leaves = turn_leaves c.args.levels c.args.leasts.now c.loop-left.leasts c.add_between.new.amounts low high w.0 w.1 c.loop-left.invariant.leaves;
       inner = turn_inner c.args.levels c.loop-left.leasts c.loop-left.amounts c.add_between.new.amounts low high (omega arith) w.0 w.1
@@ -91,7 +94,11 @@ bring_up-requires-clause-from c =
     omega arith
 
 pub bring_up-requires-clause-inner : goal.bring_up-requires-clause-inner
-bring_up-requires-clause-inner c = λ x low high. inner_met c.args.levels c.loop-left.leasts c.loop-left.amounts c.loop-left.left c.loop-left.right x c.loop-left-test.false low high c.loop-left.invariant.inner
+bring_up-requires-clause-inner c =
+    λ x low high. inner_met c.args.levels c.loop-left.leasts c.loop-left.amounts c.loop-left.left c.loop-left.right x c.loop-left-test.false low high
+    c.loop-left.invariant.inner
 
 pub returns-clause-taken : goal.returns-clause-taken
-returns-clause-taken c = take_done c.args.levels c.args.low c.args.high c.loop-left.left c.loop-left.right c.args.units c.args.amounts.now c.loop-left.amounts c.loop-left.invariant.taking c.loop-left-test.false
+returns-clause-taken c =
+    take_done c.args.levels c.args.low c.args.high c.loop-left.left c.loop-left.right c.args.units c.args.amounts.now c.loop-left.amounts
+    c.loop-left.invariant.taking c.loop-left-test.false

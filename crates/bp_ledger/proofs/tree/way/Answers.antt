@@ -7,7 +7,12 @@ pub bounds-amounts-node : goal.bounds-amounts-node
 bounds-amounts-node c = omega (arith, width_mono (c.args.levels - c.loop-level._level) c.args.levels (omega arith), c.loop-level.invariant.level)
 
 pub overflow_add-sum : goal.overflow_add-sum
-overflow_add-sum c = omega (arith, c.loop-level.invariant.sum, c.requires.fits, way_has 0 (c.args.levels - c.loop-level._level) c.args.amounts.now c.loop-level.node (omega arith))
+overflow_add-sum c = omega (
+  arith,
+  c.loop-level.invariant.sum,
+  c.requires.fits,
+  way_has 0 (c.args.levels - c.loop-level._level) c.args.amounts.now c.loop-level.node (omega arith),
+)
 
 pub loop-level-preserved : goal.loop-level-preserved
 loop-level-preserved c =
@@ -21,7 +26,12 @@ pub bounds-amounts-node-2 : goal.bounds-amounts-node-2
 bounds-amounts-node-2 c = omega (arith, width_mono (c.args.levels - c.loop-level._level) c.args.levels (omega arith), c.loop-level.invariant.level)
 
 pub overflow_add-result : goal.overflow_add-result
-overflow_add-result c = omega (arith, c.loop-level.invariant.sum, c.requires.fits, way_has 0 (c.args.levels - c.loop-level._level) c.args.amounts.now c.loop-level.node (omega arith))
+overflow_add-result c = omega (
+  arith,
+  c.loop-level.invariant.sum,
+  c.requires.fits,
+  way_has 0 (c.args.levels - c.loop-level._level) c.args.amounts.now c.loop-level.node (omega arith),
+)
 
 pub returns : goal.returns
 returns c =
@@ -31,4 +41,5 @@ returns c =
     omega arith
 
 pub offset_bounds-amounts-node : goal.offset_bounds-amounts-node
-offset_bounds-amounts-node c = let b = width_mono (c.args.levels - c.loop-level._level) c.args.levels (omega arith) in let is = c.loop-level.invariant.level in omega arith
+offset_bounds-amounts-node c = let b = width_mono (c.args.levels - c.loop-level._level) c.args.levels (omega arith) in
+    let is = c.loop-level.invariant.level in omega arith

@@ -9,6 +9,7 @@ returns g c =
     let chain = rw (c.map.ensures.f) at c.in_ok-all.ensures in
     let gives = chain.1 in
     let R = IsOutcome c.args.base.now in
-    let listed : c.map.result.base.base.slice.now ≡ c.args.lists.now = ap (λ m. m.base.slice.now) c.map.ensures.base ∙ ap (λ m. m.slice.now) c.with_min_len.ensures.base ∙ c.par_iter.ensures in
+    let listed : c.map.result.base.base.slice.now ≡ c.args.lists.now = ap (λ m. m.base.slice.now) c.map.ensures.base ∙
+    ap (λ m. m.slice.now) c.with_min_len.ensures.base ∙ c.par_iter.ensures in
     where_ok c.in_ok-all.all _ _ _ chain.2 (λ v h.
     subst (AllZip R c.args.lists.now) (sym h.2) (all_ok R c.args.lists.now gives.0 chain.0 h.0 (gives.1 ∙ listed) gives.2 h.1))

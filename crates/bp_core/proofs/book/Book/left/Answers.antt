@@ -8,12 +8,23 @@ use Rattle.bp_core.proofs.book.Book.left.Goals.{then-is_gone, else-is_gone}
 
 pub loop-caller-preserved : goal.loop-caller-preserved
 loop-caller-preserved c =
-    let gone = c.is_gone.ensures ∙ ap is_gone (c.self.invariant.standings c.loop-caller.caller (omega arith)) ∙ gone_has_left _ _ ∙ ap (λ (b : Diary). has_left b.history c.loop-caller.caller) c.self.view_is in
+    let gone = c.is_gone.ensures ∙ ap is_gone (c.self.invariant.standings c.loop-caller.caller (omega arith)) ∙ gone_has_left _ _ ∙
+    ap (λ (b : Diary). has_left b.history c.loop-caller.caller) c.self.view_is in
     let step = left_step c.args.self.now.history c.loop-caller.caller (omega arith) in
     let one = ap (λ (b : Bool). cond {A = ℕ} b 1 0) gone in
     elim c.if-is_gone.branch [
-      | then-is_gone w ↦ let t = ap (λ (b : Bool). cond {A = ℕ} b 1 0) w.if-is_gone.true in record { counted = omega (arith, step, one, t, w.left-is, c.loop-caller.invariant.counted); small = omega (arith, w.left-is, c.loop-caller.invariant.small) }
-      | else-is_gone w ↦ let f = ap (λ (b : Bool). cond {A = ℕ} b 1 0) w.if-is_gone.false in record { counted = omega (arith, step, one, f, w.left-is, c.loop-caller.invariant.counted); small = omega (arith, w.left-is, c.loop-caller.invariant.small) }
+      | then-is_gone w ↦ let t = ap (λ (b : Bool). cond {A = ℕ} b 1 0) w.if-is_gone.true in
+          record {
+            counted = omega (arith, step, one, t, w.left-is, c.loop-caller.invariant.counted);
+            small =
+                omega (arith, w.left-is, c.loop-caller.invariant.small);
+          }
+      | else-is_gone w ↦ let f = ap (λ (b : Bool). cond {A = ℕ} b 1 0) w.if-is_gone.false in
+          record {
+            counted = omega (arith, step, one, f, w.left-is, c.loop-caller.invariant.counted);
+            small =
+                omega (arith, w.left-is, c.loop-caller.invariant.small);
+          }
     ]
 
 pub returns : goal.returns

@@ -13,6 +13,9 @@ returns-clause-program g c =
     let j = c.args.stay in
     let unasked : Program = changed p (Demand j 0) in
     let rated : Program = changed unasked (Rate j c.args.value) in
-    let forecast : c.stay-forecast.result.forecast ≡ (stay_at p j).forecast = ap (λ (s : Stay). s.forecast) c.stay-forecast.ensures.value ∙ ap (λ (x : Solving). (stay_at x.flow.program j).forecast) c.self.view_is in
-    let two : c.set_rate.new.self.flow.program ≡ rated = c.set_rate.ensures.program ∙ ap (λ (q : Program). changed q (Rate j c.args.value)) c.demand.ensures.program in
-    c.demand-2.ensures.program ∙ ap (λ (q : Program). changed q (Demand j c.stay-forecast.result.forecast)) two ∙ ap (λ (f : ℕ). changed rated (Demand j f)) forecast ∙ repriced p j c.args.value c.requires.0
+    let forecast : c.stay-forecast.result.forecast ≡ (stay_at p j).forecast = ap (λ (s : Stay). s.forecast) c.stay-forecast.ensures.value ∙
+    ap (λ (x : Solving). (stay_at x.flow.program j).forecast) c.self.view_is in
+    let two : c.set_rate.new.self.flow.program ≡ rated = c.set_rate.ensures.program ∙
+    ap (λ (q : Program). changed q (Rate j c.args.value)) c.demand.ensures.program in
+    c.demand-2.ensures.program ∙ ap (λ (q : Program). changed q (Demand j c.stay-forecast.result.forecast)) two ∙
+    ap (λ (f : ℕ). changed rated (Demand j f)) forecast ∙ repriced p j c.args.value c.requires.0

@@ -10,7 +10,8 @@ invariant_of-self c =
     let F : Solving → Type 0 = λ p. (c.args.stay < length p.flow.program.stays) × ((stay_at p.flow.program c.args.stay).forecast ≡ 0) in
     let facts = subst F (sym c.self.view_is) (c.requires.fits.0, c.requires.unasked) in
     let nights = ap (λ (p : Priced). length p.flow.program.rooms) c.set_rate.ensures in (
-      rerated_solved c.self.inside.flow c.set_rate.new.self c.args.stay c.args.value c.self.invariant.0 c.nights-nights.ensures.priced facts.0 facts.1 c.set_rate.ensures,
+      rerated_solved c.self.inside.flow c.set_rate.new.self c.args.stay c.args.value c.self.invariant.0 c.nights-nights.ensures.priced facts.0 facts.1
+          c.set_rate.ensures,
       omega (arith, nights, c.self.invariant.1),
     )
 
@@ -18,4 +19,5 @@ pub returns-clause-solved : goal.returns-clause-solved
 returns-clause-solved c =
     let F : Solving → Type 0 = λ p. (c.args.stay < length p.flow.program.stays) × ((stay_at p.flow.program c.args.stay).forecast ≡ 0) in
     let facts = subst F (sym c.self.view_is) (c.requires.fits.0, c.requires.unasked) in
-    rerated_solved c.self.inside.flow c.set_rate.new.self c.args.stay c.args.value c.self.invariant.0 c.nights-nights.ensures.priced facts.0 facts.1 c.set_rate.ensures
+    rerated_solved c.self.inside.flow c.set_rate.new.self c.args.stay c.args.value c.self.invariant.0 c.nights-nights.ensures.priced facts.0 facts.1
+    c.set_rate.ensures

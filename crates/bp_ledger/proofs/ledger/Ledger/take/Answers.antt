@@ -14,7 +14,8 @@ take_between-requires-clause-low c =
     let leasts : List ℕ = c.self.inside.leasts.items in
     let amounts : List ℕ = c.self.inside.amounts.items in
     let v : Inventory = seen levels rooms amounts in
-    let span : IsSpanWithin (length rooms) c.args.span = let P : Inventory → Type 0 = λ w. IsSpanWithin (length w.rooms) c.args.span in subst P (sym c.self.view_is) c.requires.span in
+    let span : IsSpanWithin (length rooms) c.args.span = let P : Inventory → Type 0 = λ w. IsSpanWithin (length w.rooms) c.args.span in
+    subst P (sym c.self.view_is) c.requires.span in
     low_on levels width rooms leasts amounts c.self.invariant c.args.span span
 
 pub take_between-requires-clause-high : goal.take_between-requires-clause-high
@@ -25,7 +26,8 @@ take_between-requires-clause-high c =
     let leasts : List ℕ = c.self.inside.leasts.items in
     let amounts : List ℕ = c.self.inside.amounts.items in
     let v : Inventory = seen levels rooms amounts in
-    let span : IsSpanWithin (length rooms) c.args.span = let P : Inventory → Type 0 = λ w. IsSpanWithin (length w.rooms) c.args.span in subst P (sym c.self.view_is) c.requires.span in
+    let span : IsSpanWithin (length rooms) c.args.span = let P : Inventory → Type 0 = λ w. IsSpanWithin (length w.rooms) c.args.span in
+    subst P (sym c.self.view_is) c.requires.span in
     high_on levels width rooms leasts amounts c.self.invariant c.args.span span
 
 pub take_between-requires-clause-left : goal.take_between-requires-clause-left
@@ -36,8 +38,10 @@ take_between-requires-clause-left c =
     let leasts : List ℕ = c.self.inside.leasts.items in
     let amounts : List ℕ = c.self.inside.amounts.items in
     let v : Inventory = seen levels rooms amounts in
-    let span : IsSpanWithin (length rooms) c.args.span = let P : Inventory → Type 0 = λ w. IsSpanWithin (length w.rooms) c.args.span in subst P (sym c.self.view_is) c.requires.span in
-    let left : HasLeft v c.args.span c.args.units = let P : Inventory → Type 0 = λ w. HasLeft w c.args.span c.args.units in subst P (sym c.self.view_is) c.requires.left in
+    let span : IsSpanWithin (length rooms) c.args.span = let P : Inventory → Type 0 = λ w. IsSpanWithin (length w.rooms) c.args.span in
+    subst P (sym c.self.view_is) c.requires.span in
+    let left : HasLeft v c.args.span c.args.units = let P : Inventory → Type 0 = λ w. HasLeft w c.args.span c.args.units in
+    subst P (sym c.self.view_is) c.requires.left in
     rw c.deref_mut-2.ensures.value (take_fits levels width rooms leasts amounts c.self.invariant c.args.span c.args.units span left)
 
 pub invariant_of-self : goal.invariant_of-self
@@ -48,19 +52,24 @@ invariant_of-self c =
     let leasts : List ℕ = c.self.inside.leasts.items in
     let amounts : List ℕ = c.self.inside.amounts.items in
     let v : Inventory = seen levels rooms amounts in
-    let span : IsSpanWithin (length rooms) c.args.span = let P : Inventory → Type 0 = λ w. IsSpanWithin (length w.rooms) c.args.span in subst P (sym c.self.view_is) c.requires.span in
-    let left : HasLeft v c.args.span c.args.units = let P : Inventory → Type 0 = λ w. HasLeft w c.args.span c.args.units in subst P (sym c.self.view_is) c.requires.left in
+    let span : IsSpanWithin (length rooms) c.args.span = let P : Inventory → Type 0 = λ w. IsSpanWithin (length w.rooms) c.args.span in
+    subst P (sym c.self.view_is) c.requires.span in
+    let left : HasLeft v c.args.span c.args.units = let P : Inventory → Type 0 = λ w. HasLeft w c.args.span c.args.units in
+    subst P (sym c.self.view_is) c.requires.left in
     let low : ℕ = width + c.args.span.from in
     let high : ℕ = width + c.args.span.to + 1 in
-    let took : IsTaken levels low high c.args.units amounts c.take_between.new.amounts = let P : List ℕ → Type 0 = λ a. IsTaken levels low high c.args.units a c.take_between.new.amounts in subst P c.deref_mut-2.ensures.value c.take_between.ensures.taken in
+    let took : IsTaken levels low high c.args.units amounts c.take_between.new.amounts = let P : List ℕ →
+    Type 0 = λ a. IsTaken levels low high c.args.units a c.take_between.new.amounts in subst P c.deref_mut-2.ensures.value c.take_between.ensures.taken in
     let same_leasts : length c.deref_mut.result.now ≡ length leasts = ap (λ (l : List ℕ). length l) c.deref_mut.ensures.value in
     let len : length c.take_between.new.leasts ≡ length leasts = c.take_between.ensures.len ∙ same_leasts in
     let e1 : length c.take_between.new.leasts ≡ c.self.inside.leasts.len = omega (arith, c.take_between.ensures.len, c.deref_mut.ensures.len) in
     let i1 = with_items_is c.self.inside.leasts c.take_between.new.leasts e1 in
     let e2 : length c.take_between.new.amounts ≡ c.self.inside.amounts.len = omega (arith, c.take_between.ensures.taken.len, c.deref_mut-2.ensures.len) in
     let i2 = with_items_is c.self.inside.amounts c.take_between.new.amounts e2 in
-    let leaves : SameLeaves levels leasts c.take_between.new.leasts = let P : List ℕ → Type 0 = λ l. SameLeaves levels l c.take_between.new.leasts in subst P c.deref_mut.ensures.value c.take_between.ensures.leaves in
-    rw (i1, i2) (taken_tree levels width rooms leasts amounts c.self.invariant c.take_between.new.leasts c.take_between.new.amounts c.args.span c.args.units span left took len leaves c.take_between.ensures.inner)
+    let leaves : SameLeaves levels leasts c.take_between.new.leasts = let P : List ℕ → Type 0 = λ l. SameLeaves levels l c.take_between.new.leasts in
+    subst P c.deref_mut.ensures.value c.take_between.ensures.leaves in
+    rw (i1, i2) (taken_tree levels width rooms leasts amounts c.self.invariant c.take_between.new.leasts c.take_between.new.amounts c.args.span c.args.units
+    span left took len leaves c.take_between.ensures.inner)
 
 pub returns : goal.returns
 returns c =
@@ -70,10 +79,12 @@ returns c =
     let leasts : List ℕ = c.self.inside.leasts.items in
     let amounts : List ℕ = c.self.inside.amounts.items in
     let v : Inventory = seen levels rooms amounts in
-    let span : IsSpanWithin (length rooms) c.args.span = let P : Inventory → Type 0 = λ w. IsSpanWithin (length w.rooms) c.args.span in subst P (sym c.self.view_is) c.requires.span in
+    let span : IsSpanWithin (length rooms) c.args.span = let P : Inventory → Type 0 = λ w. IsSpanWithin (length w.rooms) c.args.span in
+    subst P (sym c.self.view_is) c.requires.span in
     let low : ℕ = width + c.args.span.from in
     let high : ℕ = width + c.args.span.to + 1 in
-    let took : IsTaken levels low high c.args.units amounts c.take_between.new.amounts = let P : List ℕ → Type 0 = λ a. IsTaken levels low high c.args.units a c.take_between.new.amounts in subst P c.deref_mut-2.ensures.value c.take_between.ensures.taken in
+    let took : IsTaken levels low high c.args.units amounts c.take_between.new.amounts = let P : List ℕ →
+    Type 0 = λ a. IsTaken levels low high c.args.units a c.take_between.new.amounts in subst P c.deref_mut-2.ensures.value c.take_between.ensures.taken in
     let e2 : length c.take_between.new.amounts ≡ c.self.inside.amounts.len = omega (arith, c.take_between.ensures.taken.len, c.deref_mut-2.ensures.len) in
     let i2 = with_items_is c.self.inside.amounts c.take_between.new.amounts e2 in
     let P : Inventory → Type 0 = λ w. seen levels rooms c.take_between.new.amounts ≡ taken w c.args.span c.args.units in

@@ -68,7 +68,25 @@ impl Solver {
         ensures counted { IfOk result (λ s. CountsServed steps.old steps.new 0 s.served) }
         ensures few { CountsUpTo steps.old steps.new (searches_from_nothing instance.now) }
     {
-        let mut solver = Solver::start(alloc, instance)?;
+        let mut simplex = Simplex::new(alloc, instance)?;
+        simplex.run();
+        Solver::cold_from(alloc, instance, &simplex, steps)
+    }
+
+    /// The same, beginning with what a network simplex holds, wherever it was cut off and whatever instance it is of:
+    /// nothing rests on it but time.
+    pub fn cold_from<L: Ledger>(
+        alloc: Global,
+        instance: &Instance,
+        simplex: &Simplex,
+        steps: &mut Steps<L>,
+    ) -> Result<Solver, Memory>
+        ensures solver { IfOk result (IsSolverOf instance.now) }
+        ensures solvable { IfOk result (λ _. IsSolvable instance.now) }
+        ensures counted { IfOk result (λ s. CountsServed steps.old steps.new 0 s.served) }
+        ensures few { CountsUpTo steps.old steps.new (searches_from_nothing instance.now) }
+    {
+        let mut solver = Solver::start(alloc, instance, simplex)?;
         for night in 0..instance.nights() {
             solver.fill(instance, night, steps);
         }
@@ -77,16 +95,14 @@ impl Solver {
     }
 
     /// A solver on the stays of the instance, with rooms of its own, and with the ways that the simplex found.
-    fn start(alloc: Global, instance: &Instance) -> Result<Solver, Memory>
+    fn start(alloc: Global, instance: &Instance, simplex: &Simplex) -> Result<Solver, Memory>
         ensures so_far { IfOk result (λ s. ColdSoFar instance.now 0 (priced s)) }
         ensures few { IfOk result (λ s. repairs s.flow.program.rooms instance.now.rooms ≤ rises instance.now.rooms) }
         ensures served { IfOk result (λ s. s.served ≡ 0) }
     {
-        let mut simplex = Simplex::new(alloc, instance)?;
-        simplex.run();
-        let flow = started(alloc, instance, &simplex)?;
+        let flow = started(alloc, instance, simplex)?;
         let mut start = Solver::on(alloc, flow)?;
-        keep_ways(&simplex, instance.nights(), &mut start.scratch);
+        keep_ways(simplex, instance.nights(), &mut start.scratch);
         Ok(start)
     }
 

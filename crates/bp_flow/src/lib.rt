@@ -15,6 +15,7 @@ mod rooms;
 mod settling;
 mod shortage;
 mod solver;
+mod standing;
 mod start;
 mod threads;
 mod ways;

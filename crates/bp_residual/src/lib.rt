@@ -6,6 +6,7 @@
 //! Potentials fall by the price of each night, and end at 0.
 #![tactic(auto)]
 
+mod alike;
 mod arc;
 mod flow;
 mod hop;

@@ -19,7 +19,7 @@ import sys
 
 from houses import House
 from lines import list_of
-from program import FOLDER, build, peak, program, timed
+from program import FOLDER, build, peak, program, spent
 
 HOTELS = 8
 RUNS = 5
@@ -45,15 +45,15 @@ def make(folder, commands):
 
 
 def one_after_another(hotels, folder):
-    """Seconds of the eight desks, and the text that `portfolio` has to write for them."""
-    taken, text = 0.0, b""
+    """Seconds and processor seconds of the eight desks, and the text that `portfolio` has to write for them."""
+    taken, used, text = 0.0, 0.0, b""
     for hotel, files in enumerate(hotels):
         said = os.path.join(folder, f"journal-{hotel + 1}")
-        seconds, status = timed([program(), "desk", *files, "--workers", "0"], said, statuses=(0, 7))
-        taken += seconds
+        seconds, processor, status = spent([program(), "desk", *files, "--workers", "0"], said, statuses=(0, 7))
+        taken, used = taken + seconds, used + processor
         with open(said, "rb") as journal:
             text += b"hotel %d %d\n" % (hotel + 1, status) + journal.read()
-    return taken, text
+    return taken, used, text
 
 
 def peak_at_usage():
@@ -70,17 +70,19 @@ def main():
     said = os.path.join(folder, "said")
     alone, beside = [], []
     for _ in range(RUNS):
-        seconds, text = one_after_another(hotels, folder)
-        alone.append(seconds)
-        beside.append(timed(line, said, statuses=(0, 7))[0])
+        *times, text = one_after_another(hotels, folder)
+        alone.append(times)
+        beside.append(spent(line, said, statuses=(0, 7))[:2])
         with open(said, "rb") as whole:
             if whole.read() != text:
                 sys.exit("portfolio does not write the eight journals")
-    rates = [HOTELS * commands / statistics.median(times) for times in (alone, beside)]
+    rates = [HOTELS * commands / statistics.median(taken for taken, _ in times) for times in (alone, beside)]
+    processor = [statistics.median(used for _, used in times) for times in (alone, beside)]
     processors = len(os.sched_getaffinity(0))
     ratio = rates[1] / rates[0]
     print(f"{HOTELS} hotels of {commands} commands, {processors} processors: desks one after another {rates[0]:,.0f} commands a second, "
-          f"portfolio {rates[1]:,.0f}, {ratio:.2f} times; load {os.getloadavg()[0]:.1f}")
+          f"portfolio {rates[1]:,.0f}, {ratio:.2f} times; processor seconds {processor[0]:.2f} and {processor[1]:.2f}; "
+          f"load {os.getloadavg()[0]:.1f}")
     start = peak_at_usage()
     books = sum(peak([program(), "desk", *files, "--workers", "0"]) - start for files in hotels)
     most = peak(line)

@@ -44,16 +44,22 @@ def build_beside_lemon(name):
     return made
 
 
-def timed(command, said=os.devnull, statuses=(0,)):
-    """Seconds and status of one run, whose output goes to a file."""
+def spent(command, said=os.devnull, statuses=(0,)):
+    """Seconds, processor seconds and status of one run, whose output goes to a file."""
     action = [(os.POSIX_SPAWN_OPEN, 1, said, os.O_WRONLY | os.O_CREAT | os.O_TRUNC, 0o644)]
     begin = time.perf_counter()
     child = os.posix_spawn(command[0], command, os.environ, file_actions=action)
-    _, status = os.waitpid(child, 0)
+    _, status, used = os.wait4(child, 0)
     taken = time.perf_counter() - begin
     status = os.waitstatus_to_exitcode(status)
     if status not in statuses:
         sys.exit(f"{' '.join(command)} ended with status {status}")
+    return taken, used.ru_utime + used.ru_stime, status
+
+
+def timed(command, said=os.devnull, statuses=(0,)):
+    """Seconds and status of one run, whose output goes to a file."""
+    taken, _, status = spent(command, said, statuses)
     return taken, status
 
 

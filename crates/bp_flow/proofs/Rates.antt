@@ -1,8 +1,10 @@
--- A change of one stay's rate, where nobody asks for the stay.
+-- A change of one stay's rate, where what is sold of it is right at both.
 use Rattle.std.proofs.Common.{
   ◌≡◌,
   ℕ,
+  ◌+◌,
   ◌<◌,
+  ◌≤◌,
   ap,
   ◌∙◌,
   sym,
@@ -45,6 +47,7 @@ use Rattle.bp_residual.specs.Network.{
   IsBalanced,
   with_program,
 }
+use Rattle.bp_flow.specs.Rates.{StandsAtRate}
 use Rattle.bp_flow.specs.Solvers.{IsSolvedFlow}
 
 -- the flow with the stay's new rate
@@ -75,17 +78,19 @@ rerated_carries f j rate n h =
     ∙ sum_below-cong _ _ (length f.program.stays) (λ i l. ap (λ (s : Span). cond (covers s n) (slice_index f.sell i) 0) (same_span f j rate i h)) in
     omega (arith, spans)
 
--- no step over the stay has room, so its rate does not matter
-rerated_slack : (f : Flow) (u : ℕ → ℕ) (j rate : ℕ) → IsFlow f → IsSlack f u → j < length f.program.stays → (stay_at f.program j).forecast ≡ 0 →
-    IsSlack (rerated f j rate) u
-rerated_slack f u j rate flow slack h none (sell_more i) a =
+-- what is sold of the stay is right at the new rate too
+rerated_slack : (f : Flow) (u : ℕ → ℕ) (j rate : ℕ) → IsSlack f u → j < length f.program.stays
+    → (slice_index f.sell j < (stay_at f.program j).forecast → u (stay_at f.program j).span.to + rate ≤ u (stay_at f.program j).span.from)
+    → (0 < slice_index f.sell j → u (stay_at f.program j).span.from ≤ u (stay_at f.program j).span.to + rate) → IsSlack (rerated f j rate) u
+rerated_slack f u j rate slack h more less (sell_more i) a =
     elim (cases_eq i j) [
-      | inl e ↦ absurd (
-          let here = ap (λ (s : Stay). s.forecast) (stay_here f j rate h) in
+      | inl e ↦
+          let here = stay_here f j rate h in
           let Q : ℕ → Type 0 = λ v. Admits (rerated f j rate) (sell_more v) 1 in
           let b = (subst Q e a).1 in
-          omega (arith, b, here, none)
-          )
+          let N : ℕ → Type 0 = λ v. IsNonNegative (rerated f j rate).program u (sell_more v) in
+          let right = more (omega (arith, b, ap (λ (s : Stay). s.forecast) here)) in
+          subst N (sym e) (omega (arith, right, ap (λ (s : Stay). s.rate) here, ap (λ (s : Stay). u s.span.to) here, ap (λ (s : Stay). u s.span.from) here))
       | inr ne ↦
           let other = stay_other f j rate i ne in
           let each = length-set f.program.stays j (with_rate (stay_at f.program j) rate) in
@@ -93,27 +98,43 @@ rerated_slack f u j rate flow slack h none (sell_more i) a =
           slack (sell_more i) (omega (arith, a.0, each), omega (arith, a.1, ap (λ (s : Stay). s.forecast) other)) in
           omega (arith, old, ap (λ (s : Stay). s.rate) other, ap (λ (s : Stay). u s.span.to) other, ap (λ (s : Stay). u s.span.from) other)
     ]
-rerated_slack f u j rate flow slack h none (sell_less i) a =
+rerated_slack f u j rate slack h more less (sell_less i) a =
     elim (cases_eq i j) [
-      | inl e ↦ absurd (let w = flow.within_forecast j h in let at = ap (slice_index f.sell) e in omega (arith, a.1, w, at, none))
+      | inl e ↦
+          let here = stay_here f j rate h in
+          let Q : ℕ → Type 0 = λ v. Admits (rerated f j rate) (sell_less v) 1 in
+          let b = (subst Q e a).1 in
+          let N : ℕ → Type 0 = λ v. IsNonNegative (rerated f j rate).program u (sell_less v) in
+          let right = less (omega (arith, b)) in
+          subst N (sym e) (omega (arith, right, ap (λ (s : Stay). s.rate) here, ap (λ (s : Stay). u s.span.to) here, ap (λ (s : Stay). u s.span.from) here))
       | inr ne ↦
           let other = stay_other f j rate i ne in
           let each = length-set f.program.stays j (with_rate (stay_at f.program j) rate) in
           let old : IsNonNegative f.program u (sell_less i) = slack (sell_less i) (omega (arith, a.0, each), a.1) in
           omega (arith, old, ap (λ (s : Stay). s.rate) other, ap (λ (s : Stay). u s.span.to) other, ap (λ (s : Stay). u s.span.from) other)
     ]
-rerated_slack f u j rate flow slack h none (spare_more n) a = slack (spare_more n) a
-rerated_slack f u j rate flow slack h none (spare_less n) a = slack (spare_less n) a
+rerated_slack f u j rate slack h more less (spare_more n) a = slack (spare_more n) a
+rerated_slack f u j rate slack h more less (spare_less n) a = slack (spare_less n) a
 
-pub rerated_solved : (p q : Priced) (j rate : ℕ) → IsSolvedFlow p → IsPriced q → j < length p.flow.program.stays → (stay_at p.flow.program j).forecast ≡ 0 →
+-- nothing is sold of a stay that nobody asks for, so each rate is right
+pub unasked_stands : (p : Priced) (j rate : ℕ) → IsFlow p.flow → j < length p.flow.program.stays → (stay_at p.flow.program j).forecast ≡ 0 →
+    StandsAtRate p j rate
+unasked_stands p j rate flow h none =
+    let within = flow.within_forecast j h in
+    record {
+      more = λ some. absurd (omega (arith, some, none));
+      less = λ some. absurd (omega (arith, some, within, none));
+    }
+
+pub rerated_solved : (p q : Priced) (j rate : ℕ) → IsSolvedFlow p → IsPriced q → j < length p.flow.program.stays → StandsAtRate p j rate →
     q ≡ with_program p (changed p.flow.program (Rate j rate)) → IsSolvedFlow q
-rerated_solved p q j rate solved priced h none is =
+rerated_solved p q j rate solved priced h stands is =
     let B : Priced → Type 0 = λ r. IsBalanced r.flow in
     let S : Priced → Type 0 = λ r. IsSlack r.flow (slice_index r.potentials) in
     record {
       priced = priced;
       balanced = subst B (sym is) (λ n l. rerated_carries p.flow j rate n h ∙ solved.balanced n l);
-      slack = subst S (sym is) (rerated_slack p.flow (slice_index p.potentials) j rate solved.priced.flow solved.slack h none);
+      slack = subst S (sym is) (rerated_slack p.flow (slice_index p.potentials) j rate solved.slack h stands.more stands.less);
     }
 
 -- ---- the forecast to 0, another rate, and the forecast back

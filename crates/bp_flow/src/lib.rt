@@ -22,6 +22,7 @@ mod rooms;
 mod settling;
 mod shortage;
 mod solver;
+mod standing;
 mod start;
 mod threads;
 mod ways;

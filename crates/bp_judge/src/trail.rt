@@ -1,4 +1,5 @@
 ghost use Rattle.std.specs.Prelude.{◌≡◌, ◌+◌, ◌≤◌, Some, None, length, IfOk};
+ghost use Rattle.bp_types.specs.declared.limits.TheConstants.{MOST_GROUP_ROOMS};
 ghost use Rattle.bp_types.specs.Spans.{IsSpanWithin, first_short};
 ghost use Rattle.bp_types.specs.declared.command.Command.TheVariants.{Group};
 ghost use Rattle.bp_flow.specs.Solvers.{CountsUpTo};
@@ -35,7 +36,7 @@ impl Trail {
     ) -> Result<Quoted, Memory>
         requires goes { GoesWith book.now.house book.now.history self.old }
         requires span { IsSpanWithin (length book.now.house.rooms) span }
-        requires rooms { rooms ≤ 10000 }
+        requires rooms { rooms ≤ MOST_GROUP_ROOMS }
         requires room { first_short (rooms_left_at book.now.house book.now.history) span rooms ≡ None }
         ensures right { IfOk result (λ q. IsQuoteFor book.now.house book.now.history (Group span rooms amount) q) }
         ensures newest { IfOk result (λ q. q.position ≡ length book.now.history) }

@@ -159,6 +159,15 @@ impl Scratch {
         self.ways.keep(&other.ways.hops, &other.ways.ranks);
     }
 
+    /// Keeps the ways of another scratch, and tells as many searches as it.
+    pub fn go_on_as(&mut self, other: &Scratch)
+        ensures distances { self.new.distances ≡ self.old.distances }
+        ensures served { self.new.served ≡ other.now.served }
+    {
+        self.keep_ways_of(other);
+        self.served = other.served;
+    }
+
     /// A rank of each node that falls along these hops: a hint.
     pub fn ranks(&self) -> &[u32] {
         &self.ways.ranks

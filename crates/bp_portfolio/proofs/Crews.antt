@@ -33,7 +33,8 @@ use Rattle.std.specs.Prelude.{IfOk}
 use Rattle.bp_desk_run.specs.declared.callers.Ran.{Ran}
 use Rattle.bp_types.specs.declared.limits.TheConstants.{MOST_WORKERS}
 use Rattle.bp_types.specs.declared.memory.Memory.{Memory}
-use Rattle.bp_portfolio.specs.Desks.{Staged, IsRightRun, AreRightRuns}
+use Rattle.bp_desk_run.specs.RightRun.{Staged, IsRightRun}
+use Rattle.bp_portfolio.specs.Desks.{AreRightRuns}
 use Rattle.bp_portfolio.specs.Sites.{IsToRun, IsOver, HasEnded, AreToRun, AreRunsOf}
 use Rattle.bp_portfolio.specs.declared.crew.DeskSite.{DeskSite}
 

@@ -12,7 +12,9 @@ ghost use Rattle.std.specs.Prelude.{
   slice_set,
   IfOk,
   IfSome,
+  IsTrue,
   MatchOption,
+  false,
   ◌↔◌,
   if◌then◌else◌,
   All,
@@ -62,6 +64,7 @@ ghost use Rattle.bp_types.specs.declared.limits.TheConstants.{MOST_UNITS, MOST_R
 ghost use Rattle.bp_types.specs.Changes.{changed, Fits};
 ghost use Rattle.bp_types.specs.declared.change.Change.TheVariants.{Rooms, Demand, Rate};
 
+use crate::alike::{is_alike, set_instance};
 use crate::lift::{level_potentials, lift_potentials};
 use crate::network::Network;
 use crate::rooms::{clear_rooms, set_rooms};
@@ -166,6 +169,24 @@ impl Flow {
             potentials,
             network,
         })
+    }
+
+    /// Makes it the same in every value as another flow, without taking memory, where their instances have as many
+    /// nights, and stays of the same spans in the same order. Answers whether they have; else nothing changes. It takes
+    /// the time of a look at each stay and night.
+    pub fn set_to(&mut self, other: &Flow) -> bool
+        ensures set { IsTrue result → self.new ≡ other.now }
+        ensures not_set { result ≡ false → self.new ≡ self.old }
+        ensures nights { length self.new.flow.program.rooms ≡ length self.old.flow.program.rooms }
+    {
+        if !is_alike(&self.instance, &other.instance) {
+            return false;
+        }
+        set_instance(&mut self.instance, &other.instance);
+        self.sell.copy_from_slice(&other.sell);
+        self.spare.copy_from_slice(&other.spare);
+        self.potentials.copy_from_slice(&other.potentials);
+        true
     }
 
     /// How many nights there are.
@@ -275,14 +296,7 @@ impl Flow {
         requires { hop.arc < arcs self.now.flow.program }
         ensures { result ≡ tail self.now.flow.program (step_of self.now.flow.program hop) }
     {
-        let stays = self.instance.stays();
-        if hop.arc < stays {
-            let span = self.instance.stay(hop.arc).span;
-            if hop.forward { span.from } else { span.to }
-        } else {
-            let night = hop.arc - stays;
-            if hop.forward { night } else { night + 1 }
-        }
+        self.network.tail(hop)
     }
 
     /// The node that the hop reaches.
@@ -290,14 +304,7 @@ impl Flow {
         requires { hop.arc < arcs self.now.flow.program }
         ensures { result ≡ head self.now.flow.program (step_of self.now.flow.program hop) }
     {
-        let stays = self.instance.stays();
-        if hop.arc < stays {
-            let span = self.instance.stay(hop.arc).span;
-            if hop.forward { span.to } else { span.from }
-        } else {
-            let night = hop.arc - stays;
-            if hop.forward { night + 1 } else { night }
-        }
+        self.network.head(hop)
     }
 
     fn stay_cost(&self, stay: u32, forward: bool) -> Option<u128>
@@ -529,10 +536,9 @@ impl Flow {
         self.instance.apply(Change::Rooms { span, up, units });
     }
 
-    /// Sets the rate of a stay that nobody asks for, in minor units of money.
+    /// Sets the rate of a stay, in minor units of money.
     pub fn set_rate(&mut self, stay: u32, rate: u64)
         requires stay { stay < length self.old.flow.program.stays }
-        requires unasked { (stay_at self.old.flow.program stay).forecast ≡ 0 }
         requires rate { (1 ≤ rate) × (rate ≤ MOST_RATE) }
         ensures { self.new ≡ with_program self.old (changed self.old.flow.program (Rate stay rate)) }
     {
@@ -564,6 +570,13 @@ impl Flow {
         ensures { result ≡ worth self.now.flow.program self.now.flow.sell }
     {
         self.instance.worth(&self.sell)
+    }
+
+    /// The price of each night, in minor units of money.
+    pub fn prices(&self, alloc: Global) -> Result<Vec<u64>, Memory>
+        ensures { IfOk result (λ v. v.items ≡ prices_of self.now) }
+    {
+        prices(alloc, &self.potentials)
     }
 
     /// The allocation, the prices, and the revenue as the value of both.

@@ -16,6 +16,7 @@
 //! ```
 #![tactic(auto)]
 
+mod alike;
 mod arc;
 mod flow;
 mod hop;

@@ -2,7 +2,8 @@
 use Rattle.std.proofs.Common.{◌≡◌, ℕ, ◌+◌, ◌*◌, ◌≤◌, refl, sym, subst, ap, ◌∙◌, arith, List, [], ◌∷◌, ◌++◌, length, Result, Ok, Err}
 use Rattle.bp_desk_run.specs.declared.callers.Ran.{Ran}
 use Rattle.bp_portfolio.specs.Lists.{FiveNames}
-use Rattle.bp_portfolio.specs.Desks.{Staged, AreRightRuns}
+use Rattle.bp_desk_run.specs.RightRun.{Staged}
+use Rattle.bp_portfolio.specs.Desks.{AreRightRuns}
 use Rattle.bp_cli.specs.Words.{Word}
 use Rattle.bp_run.specs.HotelPlan.{HotelNames}
 use Rattle.bp_run.specs.Desk.{desk_plan}

@@ -21,7 +21,7 @@ use Rattle.bp_run.specs.HotelFiles.{hotel_file, stays_of_hotel, forecast_of_stay
 use Rattle.bp_run.specs.JournalFiles.{journal_file}
 use Rattle.bp_run.specs.Command.{IsAnswered}
 use Rattle.bp_run.specs.Judge.{Charge, IsRuling, ruling_command, journal_plan, replay_plan}
-use Rattle.bp_portfolio.specs.Desks.{Staged}
+use Rattle.bp_desk_run.specs.RightRun.{Staged}
 use Rattle.bp_run.specs.Desk.{script_plan, desk_command, run_said}
 use Rattle.bp_run.specs.Laws.{HoldOneHotel, RunsAreLegal}
 use Rattle.bp_run.specs.declared.house.OpenHotel.{OpenHotel}

@@ -29,7 +29,7 @@ use Rattle.bp_run.specs.Stages.{Plan, done, ask, followed_by, IsReadOneWay, AreR
 use Rattle.bp_run.specs.TextFiles.{IsNoText, problem_file, certificate_file}
 use Rattle.bp_run.specs.ScenarioFiles.{scenarios_file}
 use Rattle.bp_run.specs.JournalFiles.{journal_file, IsNoJournal}
-use Rattle.bp_portfolio.specs.Desks.{Staged}
+use Rattle.bp_desk_run.specs.RightRun.{Staged}
 use Rattle.bp_run.specs.ListFiles.{list_file, IsNoList}
 use Rattle.bp_run.specs.Desk.{script_plan, desk_plan}
 use Rattle.bp_run.specs.Portfolio.{four_names, desks_plan}

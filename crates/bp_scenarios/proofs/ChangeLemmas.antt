@@ -36,14 +36,13 @@ use Rattle.bp_text.specs.Lines.{Line}
 use Rattle.bp_text.specs.Words.{Word, HasNoSpace, split, IsCounted}
 use Rattle.bp_text.specs.declared.words.Counted.{Counted}
 use Rattle.bp_text.proofs.NumberLemmas.{spelled_injective}
-use Rattle.bp_text.proofs.WordLemmas.{joined_injective, split_joined, number_lacks, word_lacks, word_in_front, numbers_lack}
+use Rattle.bp_text.proofs.WordLemmas.{first_word, joined_injective, split_joined, split_back, number_lacks, word_lacks, word_in_front, numbers_lack}
 use Rattle.bp_scenarios.specs.declared.told.Told.{Told}
 use Rattle.bp_scenarios.specs.declared.told.Found.{Found}
 use Rattle.bp_scenarios.specs.declared.told.Found.TheVariants.{Bad, Great, Whole}
 use Rattle.bp_scenarios.specs.Refused.{IsChangeOf}
 use Rattle.bp_scenarios.specs.Texts.{direction, change_word, change_words, change_line}
 use Rattle.bp_scenarios.specs.Rows.{IsTold, AreTold, IsBehind, IsFound}
-use Rattle.bp_scenarios.proofs.Splitting.{first_word, split_back}
 
 direction_lacks : (up : Bool) → HasNoSpace (direction up)
 direction_lacks true = word_lacks (codes "up") refl

@@ -1,4 +1,5 @@
 use Rattle.std.proofs.Common.{rules, refl, ◌≡◌, ℕ, ◌+◌, ◌≤◌, length, arith}
+use Rattle.bp_types.specs.declared.limits.TheConstants.{MOST_SESSIONS, MOST_WORKERS}
 use Rattle.bp_desk_run.specs.Finals.{AreScripted}
 use Rattle.bp_desk_run.proofs.Scripting.{scripted_there, all_in_range, workers_have_none}
 use Rattle.bp_desk_run.proofs.Starting.{ok_weaker}
@@ -11,8 +12,8 @@ run_callers-requires-clause-few g c κs ls =
     let s = scripted_there c.args.scripts.items c.args.workers c.len-sessions.result c.in_ok-actors.actors.items c.deref_mut.result.now (search rules)
     (search rules) c.in_ok-actors.ensures in
     let n = s.callers in
-    let a : length c.args.scripts.items ≤ 32 = c.requires.sessions in
-    let b : c.args.workers ≤ 16 = c.requires.workers in
+    let a : length c.args.scripts.items ≤ MOST_SESSIONS = c.requires.sessions in
+    let b : c.args.workers ≤ MOST_WORKERS = c.requires.workers in
     omega (arith, n, a, b)
 
 pub run_callers-requires-clause-range : goal.run_callers-requires-clause-range

@@ -1,7 +1,8 @@
 use Rattle.std.proofs.Common.{◌≡◌, ◌∙◌, ap, sym, List, [], ◌∷◌}
 use Rattle.bp_text.specs.Words.{Word, split}
+use Rattle.bp_text.proofs.WordLemmas.{split_back}
 use Rattle.bp_portfolio.specs.Lists.{FiveNames, other_names}
-use Rattle.bp_portfolio.proofs.NameLemmas.{named_five, not_names, split_back}
+use Rattle.bp_portfolio.proofs.NameLemmas.{named_five, not_names}
 use Rattle.bp_portfolio.proofs.names.names_on.Goals as goal
 
 pub returns-in_err-hotel : goal.returns-in_err-hotel

@@ -1,4 +1,4 @@
-use Rattle.std.proofs.Common.{◌≡◌, ◌+◌, ◌<◌, ◌≤◌, ap, arith, sym, ◌∙◌, rules, List, drop, get_or, slice_index, length, subst}
+use Rattle.std.proofs.Common.{◌≡◌, ℕ, ◌+◌, ◌<◌, ◌≤◌, ap, arith, sym, ◌∙◌, rules, List, drop, get_or, slice_index, length, subst}
 use Rattle.std.proofs.lemmas.List.{drop_more, get_or_default}
 use Rattle.bp_residual.specs.declared.hop.Hop.{Hop}
 use Rattle.bp_residual.specs.Index.{no_hop}
@@ -6,7 +6,7 @@ use Rattle.bp_residual.specs.Network.{Priced, Step, Admits, step_of}
 use Rattle.bp_paths.specs.Paths.{far}
 use Rattle.bp_paths.specs.Labels.{AreLabels, far_end, cost}
 use Rattle.bp_paths.proofs.Hops.{ends_of, taken_is}
-use Rattle.bp_paths.proofs.Relax.{labels_skip, labels_set}
+use Rattle.bp_paths.proofs.Relax.{labels_skip, labels_set, labels_closed}
 use Rattle.bp_paths.proofs.labels.Labels.relax_hop.Goals as goal
 
 pub returns-then-reach-index-clause-labels : goal.returns-then-reach-index-clause-labels
@@ -80,3 +80,19 @@ returns-in_default-clause-labels c =
     let none : Admits p.flow (step_of p.flow.program h) 1 → ⊥ = search rules in
     let P : Step → Type 0 = λ z. Admits p.flow z 1 in
     absurd (none (subst P (way.3 s a e t) a)))
+
+pub returns-then-is_closed-clause-labels : goal.returns-then-is_closed-clause-labels
+returns-then-is_closed-clause-labels c =
+    let p : Priced = c.args.flow.now in
+    let hops : List Hop = c.args.hops.now in
+    let h : Hop = c.turned-hop.result in
+    let rank : List ℕ = c.args.self.now.rank.items in
+    let kept : List ℕ = c.args.self.now.kept.items in
+    let way = taken_is c.args.backward p.flow c.args.x hops c.args.place h c.requires.priced.limits c.requires.hops c.requires.place c.turned-hop.ensures in
+    let L : List Hop → Type 0 =
+    λ hs. AreLabels c.args.backward p c.args.self.now.from c.args.self.now.count c.args.x c.args.at hs kept rank c.args.self.now.via.items in
+    let labels = subst L (drop_more hops c.args.place no_hop c.requires.place) c.requires.labels in
+    let y = c.far_end-head.result in
+    labels_closed c.args.backward p _ _ c.args.x c.args.at (get_or hops c.args.place no_hop) (drop (c.args.place + 1) hops)
+    kept rank _ y c.requires.priced c.requires.few labels (search rules) (λ s a t e.
+    ap (λ (z : Step). far_end c.args.backward p.flow.program z) (way.3 s a e t) ∙ sym c.far_end-head.ensures)

@@ -6,7 +6,7 @@ use Rattle.bp_flow.specs.Solving.{priced}
 use Rattle.bp_flow.specs.Solvers.{ColdSoFar}
 use Rattle.bp_flow.proofs.Cold.{cold_all}
 use Rattle.bp_flow.proofs.Rising.{searches_further, searches_within}
-use Rattle.bp_flow.proofs.solver.Solver.cold.Goals as goal
+use Rattle.bp_flow.proofs.solver.Solver.cold_from.Goals as goal
 
 pub loop-night-preserved : goal.loop-night-preserved
 loop-night-preserved g c =

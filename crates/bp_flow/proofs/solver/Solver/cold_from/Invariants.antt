@@ -2,7 +2,7 @@ use Rattle.std.proofs.Common.{◌-◌, ◌≤◌}
 use Rattle.bp_flow.specs.Rising.{repairs, rises}
 use Rattle.bp_flow.specs.Solving.{priced}
 use Rattle.bp_flow.specs.Solvers.{ColdSoFar, CountsSearches}
-use Rattle.bp_flow.proofs.solver.Solver.cold.Given as goal
+use Rattle.bp_flow.proofs.solver.Solver.cold_from.Given as goal
 
 -- there were no more searches than repairs are made
 abbrev pub invariant-loop-night : goal.invariant-loop-night

@@ -37,70 +37,24 @@ fn measure<L: Ledger, C: Clock>(
     let mut steps: Steps<L> = Steps::new(blank);
     let instance = year(alloc, &mut Draws { last: SEED })?;
     let mut lines = Vec::new(alloc);
-    let (cold, mut solver) = time_cold(clock, alloc, &instance, &mut steps)?;
-    lines.push(cold)?;
-    lines.push(time_bookings(clock, &mut solver, &instance, rounds, &mut steps)?)?;
-    lines.push(time_rates(clock, &mut solver, &instance, rounds, &mut steps)?)?;
+    let start = Instant::now(clock)?;
+    let mut solver = Solver::cold(alloc, &instance, &mut steps)?;
+    lines.push(line("cold", since(clock, start)?, &solver))?;
+    let start = Instant::now(clock)?;
+    book_all(&mut solver, &instance, rounds, &mut steps);
+    lines.push(line("booking", since(clock, start)?, &solver))?;
+    let start = Instant::now(clock)?;
+    reprice_all(&mut solver, &instance, rounds, &mut steps);
+    lines.push(line("rate", since(clock, start)?, &solver))?;
     solver.settle(&mut steps);
-    lines.push(time_groups(clock, alloc, &solver, &instance, rounds, &mut steps)?)?;
-    Ok(lines)
-}
-
-fn time_cold<L: Ledger, C: Clock>(
-    clock: &C,
-    alloc: Global,
-    instance: &Instance,
-    steps: &mut Steps<L>,
-) -> Result<(Timed, Solver), Fail> {
     let start = Instant::now(clock)?;
-    let solver = Solver::cold(alloc, instance, steps)?;
-    let taken = since(clock, start)?;
-    Ok((line("cold", taken, &solver), solver))
-}
-
-fn time_bookings<L: Ledger, C: Clock>(
-    clock: &C,
-    solver: &mut Solver,
-    instance: &Instance,
-    rounds: u32,
-    steps: &mut Steps<L>,
-) -> Result<Timed, Fail> {
-    let start = Instant::now(clock)?;
-    book_all(solver, instance, rounds, steps);
-    let taken = since(clock, start)?;
-    Ok(line("booking", taken, solver))
-}
-
-fn time_rates<L: Ledger, C: Clock>(
-    clock: &C,
-    solver: &mut Solver,
-    instance: &Instance,
-    rounds: u32,
-    steps: &mut Steps<L>,
-) -> Result<Timed, Fail> {
-    let start = Instant::now(clock)?;
-    reprice_all(solver, instance, rounds, steps);
-    let taken = since(clock, start)?;
-    Ok(line("rate", taken, solver))
-}
-
-fn time_groups<L: Ledger, C: Clock>(
-    clock: &C,
-    alloc: Global,
-    solver: &Solver,
-    instance: &Instance,
-    rounds: u32,
-    steps: &mut Steps<L>,
-) -> Result<Timed, Fail>
-    requires { IsSettled solver.now }
-{
-    let start = Instant::now(clock)?;
-    let count = quote_all(alloc, solver, instance, rounds, steps);
-    Ok(Timed {
+    let displaced = quote_all(alloc, &solver, &instance, rounds, &mut steps);
+    lines.push(Timed {
         name: "group",
         nanoseconds: since(clock, start)?,
-        count,
-    })
+        count: displaced,
+    })?;
+    Ok(lines)
 }
 
 /// What was timed, with the optimum that the solver then has.

@@ -152,7 +152,7 @@ use Rattle.std.proofs.Common.{◌≡◌, ◌≤◌, ◌<◌, ℕ, false, All, Co
 use Rattle.turn_bench.proofs.hire.Given as goal
 
 abbrev pub invariant-loop-caller : goal.invariant-loop-caller
-invariant-loop-caller l = (l.first.lock ≡ l.turn-inside.board.shared.table_id) × (l.first.has_turn ≡ false) × (l.first.number ≡ 0) × ((n : ℕ) → l.caller ≤ n → n < 64 → Contains l.first.free n) × All (λ w. (w.seat.lock ≡ l.turn-inside.board.shared.table_id) × (w.seat.has_turn ≡ false) × (w.seat.number ≡ w.caller)) l.workers.items
+invariant-loop-caller l = (l.first.lock ≡ l.turn-inside.table.shared.table_id) × (l.first.has_turn ≡ false) × (l.first.number ≡ 0) × ((n : ℕ) → l.caller ≤ n → n < 64 → Contains l.first.free n) × All (λ w. (w.seat.lock ≡ l.turn-inside.table.shared.table_id) × (w.seat.has_turn ≡ false) × (w.seat.number ≡ w.caller)) l.workers.items
 END
 
 cat > "$work/crates/turn_bench/proofs/hire/Answers.antt" <<'END'

@@ -166,7 +166,7 @@ pub loop-caller-init : goal.loop-caller-init
 loop-caller-init c = (search rules, search rules, search rules, (λ n l m. subst (λ ns. Contains ns n) (sym (ap (λ s. s.free) c.in_ok-turn.ensures)) (run_contains 1 63 n l (omega arith))), search rules)
 
 pub loop-caller-preserved : goal.loop-caller-preserved
-loop-caller-preserved c = let Ready : Worker → Type 0 = λ w. (w.seat.lock ≡ c.turn.inside.board.shared.table_id) × (w.seat.has_turn ≡ false) × (w.seat.number ≡ w.caller) in (
+loop-caller-preserved c = let Ready : Worker → Type 0 = λ w. (w.seat.lock ≡ c.turn.inside.table.shared.table_id) × (w.seat.has_turn ≡ false) × (w.seat.number ≡ w.caller) in (
   search rules,
   search rules,
   search rules,
@@ -175,7 +175,7 @@ loop-caller-preserved c = let Ready : Worker → Type 0 = λ w. (w.seat.lock ≡
 )
 
 pub returns : goal.returns
-returns c = let Ready : Worker → Type 0 = λ w. (w.seat.lock ≡ c.turn.inside.board.shared.table_id) × (w.seat.has_turn ≡ false) × (w.seat.number ≡ w.caller) in
+returns c = let Ready : Worker → Type 0 = λ w. (w.seat.lock ≡ c.turn.inside.table.shared.table_id) × (w.seat.has_turn ≡ false) × (w.seat.number ≡ w.caller) in
     let Hired : Worker → Type 0 = λ w. (w.seat.lock ≡ c.in_ok-turn.turn) × (w.seat.has_turn ≡ false) × (w.seat.number ≡ w.caller) in
     subst (All Hired) (sym c.in-Ok-push.ensures.items) (All-push Hired c.loop-caller.workers.items _ (All-weaker Ready Hired (λ w h. (search rules, h.1, h.2)) c.loop-caller.workers.items c.loop-caller.invariant.4) (search rules, search rules, search rules))
 END

@@ -35,17 +35,21 @@ fn opened(alloc: Global) -> Result<Ledger, Fail>
     Ok(ledger)
 }
 
-/// Takes a room on each night of a span, where each has one.
+/// Takes a room on each night of a span, where each has one. The look at a night's number is for the proof.
+#[tactic(auto, using(crate::proofs::SpanLemmas::has_left, crate::proofs::SpanLemmas::has_sold))]
 fn take(ledger: &mut Ledger, span: Span) -> bool
     requires { IsSpanWithin (length ledger.old.rooms) span }
     ensures nights { length ledger.new.rooms ≡ length ledger.old.rooms }
     ensures sold { IsTrue result → HasSold ledger.new span 1 }
 {
-    if ledger.first_full(span, 1).is_some() {
-        return false;
+    let _sold = ledger.sold(span.from);
+    match ledger.first_full(span, 1) {
+        Some(_) => false,
+        None => {
+            ledger.take(span, 1);
+            true
+        }
     }
-    ledger.take(span, 1);
-    true
 }
 
 /// Takes a room and may give it back; whether there was one.

@@ -18,8 +18,7 @@ fn digits(number: u64, base: u64) -> [u64; 3] {
 }
 
 fn takes(row: &Row, night: usize, units: u64) -> u64 {
-    let night = night as u32;
-    if row.0 <= night && night < row.1 {
+    if row.0 as usize <= night && night < row.1 as usize {
         units
     } else {
         0

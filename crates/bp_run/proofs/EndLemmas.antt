@@ -63,7 +63,20 @@ use Rattle.bp_run.specs.Judge.{ruling_status, ruling_command, replay_plan}
 use Rattle.bp_run.specs.Commands.{command_of, answer_status, IsPlainAnswer}
 use Rattle.bp_run.specs.Lines.{said, end_status}
 use Rattle.bp_run.specs.Puts.{Puts, Prints}
-use Rattle.bp_run.specs.Ends.{HasEnd, IsDeskOf, AreScenariosOf, five_names, HasStopped, IsPlainEnd, Outcome, HoldsAll, IsComplete, Serves, IsPortfolioOf}
+use Rattle.bp_run.specs.Ends.{
+  HasEnd,
+  IsDeskOf,
+  AreScenariosOf,
+  five_names,
+  HasStopped,
+  IsPlainEnd,
+  Outcome,
+  HoldsAll,
+  IsComplete,
+  HasTaskEnd,
+  Serves,
+  IsPortfolioOf,
+}
 use Rattle.bp_run.specs.declared.stop.Stop.{Stop}
 use Rattle.bp_run.specs.declared.stop.Stop.TheVariants as stops
 use Rattle.bp_run.specs.declared.status.Status.{Status}

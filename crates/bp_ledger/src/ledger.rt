@@ -164,13 +164,13 @@ impl Ledger {
     {
         let _ = &self.rooms;
         let low = self.width + span.from as usize;
-        let end = self.width + span.to as usize + 1;
+        let past = self.width + span.to as usize + 1;
         release_between(
             &mut self.leasts,
             &mut self.amounts,
             self.levels,
             low,
-            end,
+            past,
             units,
         );
     }

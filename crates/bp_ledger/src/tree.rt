@@ -272,8 +272,7 @@ fn release_cover(
         refresh(leasts, amounts, left);
         refresh(leasts, amounts, right);
     }
-    let top = left;
-    bring_up(leasts, amounts, levels, top);
+    bring_up(leasts, amounts, levels, left);
 }
 
 /// The least of this and, where the node is a left child, of what is left below its neighbour to the right. That one is

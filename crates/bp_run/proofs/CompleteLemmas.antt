@@ -37,7 +37,7 @@ module _ (files : Files) (held : Option Files) (told : held ≡ Some files) (s :
       let P : List ℕ → Type 0 = λ b. s.Accepts b w in
       one_way.one_value first.bytes w v (subst P (same_bytes first.bytes second.bytes first.is_read second.is_read) second.accepted) first.accepted
 
-never_refused : (shelf : Fetches) (files : Files) → shelf.before.held ≡ Some files → (s : Stage) → IsReadOneWay s → (v : s.Value) → IsReadAs (Some files) s v
+pub never_refused : (shelf : Fetches) (files : Files) → shelf.before.held ≡ Some files → (s : Stage) → IsReadOneWay s → (v : s.Value) → IsReadAs (Some files) s v
     → (cause : Cause) → IsRefusedFor shelf cause s → ⊥
 never_refused shelf files told s one_way v first TooLong long =
     let P : Option (List ℕ) → Type 0 = λ o. IsSomeAnd o (λ bytes. s.most < length bytes) in

@@ -1,5 +1,5 @@
 -- The files of a hotel are read in one way. A command that reads them cites `hotel_plan_one_way`.
-use Rattle.std.proofs.Common.{ℕ, List}
+use Rattle.std.proofs.Common.{◌≡◌, ℕ, List}
 use Rattle.bp_types.specs.declared.command.Command.{Command}
 use Rattle.bp_hotelfile.specs.Season.{Season}
 use Rattle.bp_stayfile.specs.StayList.{StayList}
@@ -12,36 +12,64 @@ use Rattle.bp_run.specs.declared.end.FileError.{FileError}
 use Rattle.bp_run.specs.declared.end.FileError.TheVariants.{Text, Hotel, Table}
 
 hotel_one_way : (name : Word) → IsReadOneWay (hotel_file name)
-hotel_one_way name = record { one_value = λ bytes v w a b. cc; not_both = never }
+hotel_one_way name = record { one_value = λ bytes v w a b. cc; not_both = never; one_error = one_error }
   where
     never : (bytes : List ℕ) (v : Season) (e : FileError) → (hotel_file name).Accepts bytes v → (hotel_file name).Refuses bytes e → ⊥
     never bytes v (Text e) a refused = refused
     never bytes v (Hotel e) a refused = cc
     never bytes v (Table e) a refused = refused
 
+    one_error : (bytes : List ℕ) (e f : FileError) → (hotel_file name).Refuses bytes e → (hotel_file name).Refuses bytes f → e ≡ f
+    one_error bytes (Hotel e) (Hotel f) a b = cc
+    one_error bytes (Hotel e) (Text f) a b = absurd b
+    one_error bytes (Hotel e) (Table f) a b = absurd b
+    one_error bytes (Text e) f a b = absurd a
+    one_error bytes (Table e) f a b = absurd a
+
 stays_one_way : (season : Season) (name : Word) → IsReadOneWay (stays_of_hotel season name)
-stays_one_way season name = record { one_value = λ bytes v w a b. cc; not_both = never }
+stays_one_way season name = record { one_value = λ bytes v w a b. cc; not_both = never; one_error = one_error }
   where
     never : (bytes : List ℕ) (v : StayList) (e : FileError) → (stays_of_hotel season name).Accepts bytes v → (stays_of_hotel season name).Refuses bytes e → ⊥
     never bytes v (Text e) a refused = refused
     never bytes v (Hotel e) a refused = refused
     never bytes v (Table e) a refused = cc
 
+    one_error : (bytes : List ℕ) (e f : FileError) → (stays_of_hotel season name).Refuses bytes e → (stays_of_hotel season name).Refuses bytes f → e ≡ f
+    one_error bytes (Table e) (Table f) a b = cc
+    one_error bytes (Table e) (Text f) a b = absurd b
+    one_error bytes (Table e) (Hotel f) a b = absurd b
+    one_error bytes (Text e) f a b = absurd a
+    one_error bytes (Hotel e) f a b = absurd a
+
 forecast_one_way : (stays : StayList) (name : Word) → IsReadOneWay (forecast_of_stays stays name)
-forecast_one_way stays name = record { one_value = λ bytes v w a b. cc; not_both = never }
+forecast_one_way stays name = record { one_value = λ bytes v w a b. cc; not_both = never; one_error = one_error }
   where
     never : (bytes : List ℕ) (v : StayList) (e : FileError) → (forecast_of_stays stays name).Accepts bytes v → (forecast_of_stays stays name).Refuses bytes e → ⊥
     never bytes v (Text e) a refused = refused
     never bytes v (Hotel e) a refused = refused
     never bytes v (Table e) a refused = cc
 
+    one_error : (bytes : List ℕ) (e f : FileError) → (forecast_of_stays stays name).Refuses bytes e → (forecast_of_stays stays name).Refuses bytes f → e ≡ f
+    one_error bytes (Table e) (Table f) a b = cc
+    one_error bytes (Table e) (Text f) a b = absurd b
+    one_error bytes (Table e) (Hotel f) a b = absurd b
+    one_error bytes (Text e) f a b = absurd a
+    one_error bytes (Hotel e) f a b = absurd a
+
 bookings_one_way : (season : Season) (stays : StayList) (name : Word) → IsReadOneWay (bookings_of_hotel season stays name)
-bookings_one_way season stays name = record { one_value = λ bytes v w a b. cc; not_both = never }
+bookings_one_way season stays name = record { one_value = λ bytes v w a b. cc; not_both = never; one_error = one_error }
   where
     never : (bytes : List ℕ) (v : List ℕ) (e : FileError) → (bookings_of_hotel season stays name).Accepts bytes v → (bookings_of_hotel season stays name).Refuses bytes e → ⊥
     never bytes v (Text e) a refused = refused
     never bytes v (Hotel e) a refused = refused
     never bytes v (Table e) a refused = cc
+
+    one_error : (bytes : List ℕ) (e f : FileError) → (bookings_of_hotel season stays name).Refuses bytes e → (bookings_of_hotel season stays name).Refuses bytes f → e ≡ f
+    one_error bytes (Table e) (Table f) a b = cc
+    one_error bytes (Table e) (Text f) a b = absurd b
+    one_error bytes (Table e) (Hotel f) a b = absurd b
+    one_error bytes (Text e) f a b = absurd a
+    one_error bytes (Hotel e) f a b = absurd a
 
 -- all four
 pub hotel_plan_one_way : (names : HotelNames) → AreReadOneWay (hotel_plan names)
@@ -55,9 +83,16 @@ hotel_plan_one_way names = (
 
 -- and a script of their stays
 pub script_one_way : (season : Season) (codes : List (List ℕ)) (name : Word) → IsReadOneWay (script_of_hotel season codes name)
-script_one_way season codes name = record { one_value = λ bytes v w a b. cc; not_both = never }
+script_one_way season codes name = record { one_value = λ bytes v w a b. cc; not_both = never; one_error = one_error }
   where
     never : (bytes : List ℕ) (v : List (List Command)) (e : FileError) → (script_of_hotel season codes name).Accepts bytes v → (script_of_hotel season codes name).Refuses bytes e → ⊥
     never bytes v (Text e) a refused = refused
     never bytes v (Hotel e) a refused = refused
     never bytes v (Table e) a refused = cc
+
+    one_error : (bytes : List ℕ) (e f : FileError) → (script_of_hotel season codes name).Refuses bytes e → (script_of_hotel season codes name).Refuses bytes f → e ≡ f
+    one_error bytes (Table e) (Table f) a b = cc
+    one_error bytes (Table e) (Text f) a b = absurd b
+    one_error bytes (Table e) (Hotel f) a b = absurd b
+    one_error bytes (Text e) f a b = absurd a
+    one_error bytes (Hotel e) f a b = absurd a

@@ -16,3 +16,7 @@ pub mod HotelHouse
 pub mod SoundCommands
 -- from the files of a line of scenarios to its end, in one thread
 pub mod AloneLemmas
+-- a certificate has one verdict
+pub mod Verdicts
+-- a line that has one text ends in one way
+pub mod Unique

@@ -53,7 +53,7 @@ gives_apart held (ask s rest) after first next b (v, was_read, gives) =
     record { a = parts.a; middle = parts.middle; early = (v, was_read, parts.early); late = parts.late }
 
 -- files that are read in one way give one thing
-same_read : (files : Files) (s : Stage) (v w : s.Value) → ((bytes : List ℕ) (x y : s.Value) → s.Accepts bytes x → s.Accepts bytes y → x ≡ y)
+pub same_read : (files : Files) (s : Stage) (v w : s.Value) → ((bytes : List ℕ) (x y : s.Value) → s.Accepts bytes x → s.Accepts bytes y → x ≡ y)
     → IsReadAs (Some files) s v → IsReadAs (Some files) s w → v ≡ w
 same_read files s v w one first second =
     let x : get files s.name ≡ Some first.bytes = first.is_read.told files refl in
@@ -62,7 +62,7 @@ same_read files s v w one first second =
     let P : List ℕ → Type 0 = λ b. s.Accepts b w in
     one first.bytes v w first.accepted (subst P same second.accepted)
 
-gives_same : {A : Type 0} (files : Files) (plan : Plan A) (first m n : ℕ) (a b : A) → AreReadOneWay plan → Gives (Some files) plan first m a → Gives (Some files) plan first n b → a ≡ b
+pub gives_same : {A : Type 0} (files : Files) (plan : Plan A) (first m n : ℕ) (a b : A) → AreReadOneWay plan → Gives (Some files) plan first m a → Gives (Some files) plan first n b → a ≡ b
 gives_same files (done x) first m n a b one_way (is, p) (is_too, q) = sym is ∙ is_too
 gives_same {A} files (ask s rest) first m n a b (here, later) (v, read_v, gives) (w, read_w, gives_too) =
     let P : s.Value → Type 0 = λ x. Gives (Some files) (rest x) (first + 1) n b in

@@ -3,6 +3,7 @@ use Rattle.std.proofs.Common.{◌≡◌, refl, Bool, true, false, ◌≤◌, ◌
 use Rattle.std.specs.Prelude.{nat_lt, if◌then◌else◌}
 use Rattle.std.specs.List.{list_all}
 use Rattle.std.proofs.lemmas.Bool.{ltb-true, and_from}
+use Rattle.bp_types.specs.declared.limits.TheConstants.{MOST_FILE_BYTES}
 use Rattle.bp_types.specs.Program.{Program}
 use Rattle.bp_types.specs.declared.stay.Span.{Span}
 use Rattle.bp_types.specs.Spans.{IsSpanWithin, first_short}
@@ -66,21 +67,28 @@ module _ {V : Type 0} (lines : V → List Line) (Within : V → Type 0) (law : T
   no_text bytes v (Hotel e) a refused = refused
   no_text bytes v (Table e) a refused = refused
 
+  one_fault : (bytes : List ℕ) (e f : FileError) → IsNoText lines Within bytes e → IsNoText lines Within bytes f → e ≡ f
+  one_fault bytes (Text e) (Text f) (other, refused) (others, refused_too) =
+      let same = law bytes (Err e) (Err f) (λ x. other (cc)) (λ x. others (cc)) refused refused_too in cc
+  one_fault bytes (Text e) (Hotel f) a b = absurd b
+  one_fault bytes (Text e) (Table f) a b = absurd b
+  one_fault bytes (Hotel e) f a b = absurd a
+  one_fault bytes (Table e) f a b = absurd a
+
+  text_one_way : (name : Word) (most : ℕ) → IsReadOneWay (record { name = name; most = most; Value = V; Accepts = λ bytes v. IsText lines Within bytes (Ok v); Refuses = IsNoText lines Within })
+  text_one_way name most = record { one_value = one_text; not_both = no_text; one_error = one_fault }
+
 problem_one_way : AreTextsReadOneWay → (name : Word) → IsReadOneWay (problem_file name)
-problem_one_way law name = record { one_value = one_text problem_lines IsProblem law.problems; not_both = no_text problem_lines IsProblem law.problems }
+problem_one_way law name = text_one_way problem_lines IsProblem law.problems name MOST_FILE_BYTES
 
 certificate_one_way : AreTextsReadOneWay → (name : Word) → IsReadOneWay (certificate_file name)
-certificate_one_way law name =
-    record { one_value = one_text all_certificate_lines IsSpeakable law.certificates; not_both = no_text all_certificate_lines IsSpeakable law.certificates }
+certificate_one_way law name = text_one_way all_certificate_lines IsSpeakable law.certificates name MOST_FILE_BYTES
 
 scenarios_one_way : AreTextsReadOneWay → (p : Program) (name : Word) → IsReadOneWay (scenarios_file p name)
-scenarios_one_way law p name = record {
-  one_value = one_text scenario_lines (AreWithin (IsChangeWithin p)) (law.scenarios p);
-  not_both = no_text scenario_lines (AreWithin (IsChangeWithin p)) (law.scenarios p);
-}
+scenarios_one_way law p name = text_one_way scenario_lines (AreWithin (IsChangeWithin p)) (law.scenarios p) name MOST_FILE_BYTES
 
 journal_one_way : AreTextsReadOneWay → (name : Word) → IsReadOneWay (journal_file name)
-journal_one_way law name = record { one_value = one_value; not_both = never }
+journal_one_way law name = record { one_value = one_value; not_both = never; one_error = one_error }
   where
     one_value : (bytes : List ℕ) (v w : History) → IsJournalText bytes (Ok v) → IsJournalText bytes (Ok w) → v ≡ w
     one_value bytes v w a b = let same = law.journals bytes (Ok v) (Ok w) (λ e. cc) (λ e. cc) a b in cc
@@ -91,8 +99,16 @@ journal_one_way law name = record { one_value = one_value; not_both = never }
     never bytes v (Hotel e) a refused = refused
     never bytes v (Table e) a refused = refused
 
+    one_error : (bytes : List ℕ) (e f : FileError) → IsNoJournal bytes e → IsNoJournal bytes f → e ≡ f
+    one_error bytes (Text e) (Text f) (other, refused) (others, refused_too) =
+        let same = law.journals bytes (Err e) (Err f) (λ x. other (cc)) (λ x. others (cc)) refused refused_too in cc
+    one_error bytes (Text e) (Hotel f) a b = absurd b
+    one_error bytes (Text e) (Table f) a b = absurd b
+    one_error bytes (Hotel e) f a b = absurd a
+    one_error bytes (Table e) f a b = absurd a
+
 list_one_way : AreTextsReadOneWay → (name : Word) → IsReadOneWay (list_file name)
-list_one_way law name = record { one_value = one_value; not_both = never }
+list_one_way law name = record { one_value = one_value; not_both = never; one_error = one_error }
   where
     one_value : (bytes : List ℕ) (v w : List FiveNames) → IsListText bytes (Ok v) → IsListText bytes (Ok w) → v ≡ w
     one_value bytes v w a b = let same = law.lists bytes (Ok v) (Ok w) (λ e. cc) (λ e. cc) a b in cc
@@ -102,6 +118,14 @@ list_one_way law name = record { one_value = one_value; not_both = never }
         let same = law.lists bytes (Ok v) (Err e) (λ x. cc) (λ x. other (cc)) a refused in cc
     never bytes v (Hotel e) a refused = refused
     never bytes v (Table e) a refused = refused
+
+    one_error : (bytes : List ℕ) (e f : FileError) → IsNoList bytes e → IsNoList bytes f → e ≡ f
+    one_error bytes (Text e) (Text f) (other, refused) (others, refused_too) =
+        let same = law.lists bytes (Err e) (Err f) (λ x. other (cc)) (λ x. others (cc)) refused refused_too in cc
+    one_error bytes (Text e) (Hotel f) a b = absurd b
+    one_error bytes (Text e) (Table f) a b = absurd b
+    one_error bytes (Hotel e) f a b = absurd a
+    one_error bytes (Table e) f a b = absurd a
 
 -- a plan of files that are read in one way, and behind it another
 one_way_then : {A B : Type 0} (plan : Plan A) (after : A → Plan B) → AreReadOneWay plan → ((a : A) → AreReadOneWay (after a)) → AreReadOneWay (followed_by plan after)

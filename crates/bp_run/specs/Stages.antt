@@ -63,10 +63,11 @@ abbrev pub AreGood : {A : Type 0} → Files → (A → Type 0) → Plan A → Ty
 AreGood files Q (done x) = Q x
 AreGood files Q (ask s rest) = (v : s.Value) × IsReadAs (Some files) s v × AreGood files Q (rest v)
 
--- the bytes of a file are read in one way: with one value, or refused
+-- the bytes of a file are read in one way: with one value, or refused with one error
 pub record IsReadOneWay (s : Stage) : Type 0 where
   pub one_value : (bytes : List ℕ) (v w : s.Value) → s.Accepts bytes v → s.Accepts bytes w → v ≡ w
   pub not_both : (bytes : List ℕ) (v : s.Value) (e : FileError) → s.Accepts bytes v → s.Refuses bytes e → ⊥
+  pub one_error : (bytes : List ℕ) (e f : FileError) → s.Refuses bytes e → s.Refuses bytes f → e ≡ f
 
 -- so is each file of a plan
 abbrev pub AreReadOneWay : {A : Type 0} → Plan A → Type 0

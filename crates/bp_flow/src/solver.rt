@@ -250,7 +250,8 @@ impl Solver {
         true
     }
 
-    /// Sets the rate of a stay, in minor units of money. Where what is sold of it is right at that rate too, no unit moves.
+    /// Sets the rate of a stay, in minor units of money. Where what is sold of it is right at that rate too, no unit
+    /// moves.
     pub fn reprice<L: Ledger>(&mut self, stay: u32, value: u64, steps: &mut Steps<L>)
         requires { Fits self.old.flow.program (Rate stay value) }
         ensures program { self.new.flow.program ≡ changed self.old.flow.program (Rate stay value) }

@@ -256,9 +256,9 @@ impl Flow {
         }
     }
 
-    /// The reduced cost of a stay's hop that has room for a unit. It is the distance of two numbers either way, so that no
-    /// branch is taken for it: whether there is room is as good as drawn by lot, and a wrong guess of the processor takes
-    /// longer than all the rest.
+    /// The reduced cost of a stay's hop that has room for a unit. It is the distance of two numbers either way, so that
+    /// no branch is taken for it: whether there is room is as good as drawn by lot, and a wrong guess of the processor
+    /// takes longer than all the rest.
     fn stay_cost(&self, stay: u32, forward: bool) -> Option<u128>
         requires in_range { stay < length self.now.flow.program.stays }
         requires slack { IsSlack self.now.flow (slice_index self.now.potentials) }

@@ -17,6 +17,20 @@ IsPlainTask (scenarios problem changes) = ⊥
 IsPlainTask (sheet problem) = Unit {0}
 IsPlainTask (portfolio list workers) = ⊥
 
+-- the task is one of a hotel's four files and a journal
+abbrev pub IsHotelTask : Task → Type 0
+IsHotelTask (check problem certificate) = ⊥
+IsHotelTask (solve problem) = ⊥
+IsHotelTask (group problem from to rooms) = ⊥
+IsHotelTask (judge problem journal) = ⊥
+IsHotelTask (desk names workers) = ⊥
+IsHotelTask (replay names) = Unit {0}
+IsHotelTask (report names) = Unit {0}
+IsHotelTask (demo seed nights rooms stays) = ⊥
+IsHotelTask (scenarios problem changes) = ⊥
+IsHotelTask (sheet problem) = ⊥
+IsHotelTask (portfolio list workers) = ⊥
+
 -- the task is that of a desk
 abbrev pub IsDesk : Task → Type 0
 IsDesk task = (names : FiveNames) × (workers : ℕ) × (task ≡ desk names workers)

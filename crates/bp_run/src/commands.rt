@@ -1,7 +1,7 @@
 //! The commands, one file each: its answer, and the status and the text of the answer.
 ghost use Rattle.std.specs.Prelude.{◌≡◌, ◌↔◌, IsTrue, IfOk};
 ghost use Rattle.bp_cli.specs.Asked.{asked};
-ghost use Rattle.bp_run.specs.Served.{IsPlainTask};
+ghost use Rattle.bp_run.specs.Served.{IsPlainTask, IsHotelTask};
 ghost use Rattle.bp_run.specs.Demo.{HasDemoNumbers};
 ghost use Rattle.bp_run.specs.Puts.{onto, PutsText};
 ghost use Rattle.bp_run.specs.Fetches.{over};
@@ -100,6 +100,39 @@ fn reported<S: Shelf>(
     report::answer(alloc, shelf, &hotel, journal.text())
 }
 
+// The answer to a task of a hotel's four files and a journal.
+fn of_hotel<S: Shelf>(alloc: Global, shelf: &mut S, task: &Task<'_>) -> Result<Answer, Stop>
+    requires hotel { IsHotelTask (asked task.now) }
+    ensures plain { IfOk result IsPlainAnswer }
+    ensures concludes { Concludes (over S.held S.faults S.fetches S.last S.steady shelf.old shelf.new) (command_of (asked task.now)) result }
+{
+    match task {
+        Task::Replay {
+            hotel,
+            stays,
+            forecast,
+            bookings,
+            journal,
+        } => {
+            Ok(Answer::Judged(replayed(alloc, shelf, hotel, stays, forecast, bookings, journal)?))
+        }
+        Task::Report {
+            hotel,
+            stays,
+            forecast,
+            bookings,
+            journal,
+        } => {
+            Ok(Answer::Reported(reported(alloc, shelf, hotel, stays, forecast, bookings, journal)?))
+        }
+        Task::Check { .. } | Task::Solve { .. } | Task::Group { .. } | Task::Judge { .. } => {
+            unreachable!()
+        }
+        Task::Sheet { .. } | Task::Demo { .. } => unreachable!(),
+        Task::Desk { .. } | Task::Scenarios { .. } | Task::Portfolio { .. } => unreachable!(),
+    }
+}
+
 /// The answer to a task. Its files are read in their order, up to the first that gives no value.
 pub fn answer<S: Shelf>(alloc: Global, shelf: &mut S, task: &Task<'_>) -> Result<Answer, Stop>
     requires plain { IsPlainTask (asked task.now) }
@@ -130,24 +163,7 @@ pub fn answer<S: Shelf>(alloc: Global, shelf: &mut S, task: &Task<'_>) -> Result
         Task::Judge { problem, journal } => {
             Ok(Answer::Judged(judge::answer(alloc, shelf, problem.text(), journal.text())?))
         }
-        Task::Replay {
-            hotel,
-            stays,
-            forecast,
-            bookings,
-            journal,
-        } => {
-            Ok(Answer::Judged(replayed(alloc, shelf, hotel, stays, forecast, bookings, journal)?))
-        }
-        Task::Report {
-            hotel,
-            stays,
-            forecast,
-            bookings,
-            journal,
-        } => {
-            Ok(Answer::Reported(reported(alloc, shelf, hotel, stays, forecast, bookings, journal)?))
-        }
+        Task::Replay { .. } | Task::Report { .. } => of_hotel(alloc, shelf, task),
         Task::Sheet { problem } => Ok(Answer::Sheeted(sheet::answer(
             alloc,
             shelf,

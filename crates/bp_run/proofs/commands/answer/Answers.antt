@@ -1,5 +1,4 @@
 use Rattle.std.proofs.Common.{refl, sym, subst}
-use Rattle.std.proofs.lemmas.Result.{err_from_is_err_and}
 use Rattle.bp_cli.specs.Asked.{asked}
 use Rattle.bp_cli.specs.declared.task.Task.{Task as ReadTask}
 use Rattle.bp_run.specs.Demo.{HasDemoNumbers}
@@ -20,24 +19,6 @@ returns-in_ok-answer-in-Group-clause-concludes g c =
 pub returns-in_ok-answer-in-Judge-clause-concludes : goal.returns-in_ok-answer-in-Judge-clause-concludes
 returns-in_ok-answer-in-Judge-clause-concludes g c =
     rw (c.in-Judge.is, sym c.text-in-Judge.ensures, sym c.text-in-Judge-2.ensures) (record { own = c.in_ok-answer-in-Judge.field-0; is = refl; answered = c.in_ok-answer-in-Judge.ensures })
-
-pub returns-in_ok-replayed-in-Replay-clause-concludes : goal.returns-in_ok-replayed-in-Replay-clause-concludes
-returns-in_ok-replayed-in-Replay-clause-concludes g c =
-    rw c.in-Replay.is (record { own = c.in_ok-replayed-in-Replay.field-0; is = refl; answered = c.in_ok-replayed-in-Replay.ensures })
-
-pub returns-in_err-replayed-in-Replay-clause-concludes : goal.returns-in_err-replayed-in-Replay-clause-concludes
-returns-in_err-replayed-in-Replay-clause-concludes g c =
-    let p = err_from_is_err_and c.from_residual-in_err-replayed-in-Replay.result c.from_residual-in_err-replayed-in-Replay.ensures.1 in
-    rw (p.1, p.2, c.in-Replay.is) c.in_err-replayed-in-Replay.ensures
-
-pub returns-in_ok-reported-in-Report-clause-concludes : goal.returns-in_ok-reported-in-Report-clause-concludes
-returns-in_ok-reported-in-Report-clause-concludes g c =
-    rw c.in-Report.is (record { own = c.in_ok-reported-in-Report.field-0; is = refl; answered = c.in_ok-reported-in-Report.ensures })
-
-pub returns-in_err-reported-in-Report-clause-concludes : goal.returns-in_err-reported-in-Report-clause-concludes
-returns-in_err-reported-in-Report-clause-concludes g c =
-    let p = err_from_is_err_and c.from_residual-in_err-reported-in-Report.result c.from_residual-in_err-reported-in-Report.ensures.1 in
-    rw (p.1, p.2, c.in-Report.is) c.in_err-reported-in-Report.ensures
 
 pub returns-in_ok-answer-in-Sheet-clause-concludes : goal.returns-in_ok-answer-in-Sheet-clause-concludes
 returns-in_ok-answer-in-Sheet-clause-concludes g c =

@@ -1,15 +1,20 @@
 """Generated problems for the scripts of this folder."""
 
 
+class Draws:
+    """A linear congruential generator."""
+
+    def __init__(self, seed):
+        self.last = seed + 1
+
+    def below(self, limit):
+        self.last = 16807 * self.last % 2147483647
+        return self.last % limit
+
+
 def generate(seed, nights, rooms, stays):
-    """Rooms of each night, and stays (from, to, rate, forecast), from a linear congruential generator."""
-    x = seed + 1
-
-    def draw(m):
-        nonlocal x
-        x = 16807 * x % 2147483647
-        return x % m
-
+    """Rooms of each night, and stays (from, to, rate, forecast)."""
+    draw = Draws(seed).below
     rows = []
     for _ in range(stays):
         start = draw(nights)

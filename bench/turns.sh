@@ -152,7 +152,7 @@ use Rattle.std.proofs.Common.{◌≡◌, ◌≤◌, ◌<◌, ℕ, false, All, Co
 use Rattle.turn_bench.proofs.hire.Given as goal
 
 abbrev pub invariant-loop-caller : goal.invariant-loop-caller
-invariant-loop-caller l = (l.first.lock ≡ l.turn-inside.board.shared.table_id) × (l.first.has_turn ≡ false) × (l.first.number ≡ 0) × ((n : ℕ) → l.caller ≤ n → n < 64 → Contains l.first.free n) × All (λ w. (w.seat.lock ≡ l.turn-inside.board.shared.table_id) × (w.seat.has_turn ≡ false) × (w.seat.number ≡ w.caller)) l.workers.items
+invariant-loop-caller l = (l.first.lock ≡ l.turn-inside.table.shared.table_id) × (l.first.has_turn ≡ false) × (l.first.number ≡ 0) × ((n : ℕ) → l.caller ≤ n → n < 64 → Contains l.first.free n) × All (λ w. (w.seat.lock ≡ l.turn-inside.table.shared.table_id) × (w.seat.has_turn ≡ false) × (w.seat.number ≡ w.caller)) l.workers.items
 END
 
 cat > "$work/crates/turn_bench/proofs/hire/Answers.antt" <<'END'
@@ -166,7 +166,7 @@ pub loop-caller-init : goal.loop-caller-init
 loop-caller-init c = (search rules, search rules, search rules, (λ n l m. subst (λ ns. Contains ns n) (sym (ap (λ s. s.free) c.in_ok-turn.ensures)) (run_contains 1 63 n l (omega arith))), search rules)
 
 pub loop-caller-preserved : goal.loop-caller-preserved
-loop-caller-preserved c = let Ready : Worker → Type 0 = λ w. (w.seat.lock ≡ c.turn.inside.board.shared.table_id) × (w.seat.has_turn ≡ false) × (w.seat.number ≡ w.caller) in (
+loop-caller-preserved c = let Ready : Worker → Type 0 = λ w. (w.seat.lock ≡ c.turn.inside.table.shared.table_id) × (w.seat.has_turn ≡ false) × (w.seat.number ≡ w.caller) in (
   search rules,
   search rules,
   search rules,
@@ -175,7 +175,7 @@ loop-caller-preserved c = let Ready : Worker → Type 0 = λ w. (w.seat.lock ≡
 )
 
 pub returns : goal.returns
-returns c = let Ready : Worker → Type 0 = λ w. (w.seat.lock ≡ c.turn.inside.board.shared.table_id) × (w.seat.has_turn ≡ false) × (w.seat.number ≡ w.caller) in
+returns c = let Ready : Worker → Type 0 = λ w. (w.seat.lock ≡ c.turn.inside.table.shared.table_id) × (w.seat.has_turn ≡ false) × (w.seat.number ≡ w.caller) in
     let Hired : Worker → Type 0 = λ w. (w.seat.lock ≡ c.in_ok-turn.turn) × (w.seat.has_turn ≡ false) × (w.seat.number ≡ w.caller) in
     subst (All Hired) (sym c.in-Ok-push.ensures.items) (All-push Hired c.loop-caller.workers.items _ (All-weaker Ready Hired (λ w h. (search rules, h.1, h.2)) c.loop-caller.workers.items c.loop-caller.invariant.4) (search rules, search rules, search rules))
 END

@@ -7,7 +7,7 @@
 #include "book.h"
 
 constexpr u32 NIGHTS = 400;
-constexpr u64 ROOMS = 10000;
+constexpr u64 ROOMS = 10000000;
 
 struct Draws {
     u64 state = 1;

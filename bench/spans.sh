@@ -3,8 +3,8 @@
 # It wants rt and Debian's g++. Where the program has to be built, that takes some minutes, most of them for proofs.
 #
 # Each visit looks for a room on all nights of a span and takes one; each second visit gives it back. The ledger has 400
-# nights. The spans have at least 100, 200, 300 or 400 nights, and in the last row just 100. Each time is the median of
-# seven, and the two programs run in turn. It fails where the two find another number of rooms.
+# nights, and the spans have as many as a row says. Each time is the median of seven, and the two programs run in turn. It
+# fails where the two find another number of rooms.
 set -eu
 here="$(cd "$(dirname "${BASH_SOURCE[0]}")" && pwd)"
 . "$here/beside.sh"

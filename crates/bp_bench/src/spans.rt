@@ -13,7 +13,8 @@ use std::time::{Clock, Instant};
 
 const NIGHTS: u32 = 400;
 
-const ROOMS: u64 = 10_000;
+/// Rooms of each night: more than the visits take, so that each looks at its whole span.
+const ROOMS: u64 = 10_000_000;
 
 /// Sets the rooms of a night.
 fn resize(ledger: &mut Ledger, night: u32, rooms: u64)

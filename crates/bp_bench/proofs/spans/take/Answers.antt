@@ -1,6 +1,5 @@
-use Rattle.std.proofs.Common.{◌≡◌, ◌∙◌, sym, subst, arith, length}
-use Rattle.bp_ledger.specs.Inventory.{Inventory, HasSold}
-use Rattle.bp_bench.proofs.SpanLemmas.{has_left, has_sold}
+use Rattle.std.proofs.Common.{◌∙◌, sym}
+use Rattle.bp_bench.proofs.SpanLemmas.{has_left}
 use Rattle.bp_bench.proofs.spans.take.Goals as goal
 
 pub take-requires-clause-left : goal.take-requires-clause-left

@@ -135,24 +135,55 @@ fn hire<R: Wait>(
     Ok(workers)
 }
 
-/// Opens a desk and has it called; the nanoseconds of the calls, and how many were accepted.
+/// How many bookings were accepted.
+fn count_accepted(workers: &[Worker]) -> u64 {
+    let mut accepted: u64 = 0;
+    for worker in workers {
+        accepted = accepted.saturating_add(worker.accepted);
+    }
+    accepted
+}
+
+/// The nanoseconds in which all workers make so many bookings each.
+fn time_work<R: Threads + Wait + Clock + Sync>(
+    rt: &R,
+    desk: &Desk,
+    house: &House,
+    workers: &mut [Worker],
+    calls: u32,
+) -> Result<u128, Fail>
+    requires { All (λ w. IsPassOf desk.now house.now w.pass) workers.old }
+{
+    let start = Instant::now(rt)?;
+    work_all(rt, desk, house, workers, calls);
+    Ok(start.elapsed(rt)?.as_nanos())
+}
+
+/// Has a desk called; the nanoseconds of the calls, and how many were accepted.
 fn call<R: Threads + Wait + Clock + Sync>(
     rt: &R,
     alloc: Global,
+    desk: &Desk,
+    house: &House,
+    opener: &mut Pass,
+    load: (u32, u32),
+) -> Result<(u128, u64), Fail>
+    requires { IsPassOf desk.now house.now opener.old × (opener.old.caller ≡ 0) }
+{
+    let mut workers = hire(rt, alloc, desk, house, opener, load.0)?;
+    let taken = time_work(rt, desk, house, &mut workers, load.1)?;
+    Ok((taken, count_accepted(&workers)))
+}
+
+/// Opens a desk and has it called by so many threads, so often by each.
+fn open_and_call<R: Threads + Wait + Clock + Sync>(
+    rt: &R,
+    alloc: Global,
     hotel: &Hotel,
-    threads: u32,
-    calls: u32,
+    load: (u32, u32),
 ) -> Result<(u128, u64), Fail> {
     let (house, desk, mut opener) = open_desk(alloc, hotel)?;
-    let mut workers = hire(rt, alloc, &desk, &house, &mut opener, threads)?;
-    let start = Instant::now(rt)?;
-    work_all(rt, &desk, &house, &mut workers, calls);
-    let taken = start.elapsed(rt)?.as_nanos();
-    let mut accepted: u64 = 0;
-    for worker in &workers {
-        accepted = accepted.saturating_add(worker.accepted);
-    }
-    Ok((taken, accepted))
+    call(rt, alloc, &desk, &house, &mut opener, load)
 }
 
 /// Times the bookings. The count is of those that were accepted.
@@ -168,7 +199,7 @@ pub(crate) fn run<R: Threads + Wait + Clock + Sync>(
     let mut taken: u128 = 0;
     let mut accepted: u64 = 0;
     for _ in 0..bookings.desks {
-        let (took, some) = call(rt, alloc, &hotel, bookings.threads, calls)?;
+        let (took, some) = open_and_call(rt, alloc, &hotel, (bookings.threads, calls))?;
         taken = taken.saturating_add(took);
         accepted = accepted.saturating_add(some);
     }

@@ -3,13 +3,13 @@
 
     bench/embed.py
 
-It wants the kit's `rt` and gcc, and numpy for the calls with arrays (run it by /usr/bin/python3 where that has it). The
-yardsticks are scipy's linprog (HiGHS) and networkx's network simplex; one that is not installed is left out, and said to
-be. All values must be equal whole numbers. valgrind counts the instructions of a call and of the cold solve in it, where
-it is installed. It fails where a call takes more than 1.05 times as many as the solve, where the fastest call from Python takes more than 1.1 times the
-fastest from C on a year, where a thousand cold solves of 30 nights and 200 stays are fewer than 20 times as many a second by
-the call as by the command, or where a thousand what-ifs of a year by the call of scenarios are fewer than 20 times as many
-a second as cold solves.
+It wants the kit's `rt` and gcc, and numpy for the calls with its arrays (run it by /usr/bin/python3 where that has it).
+The yardsticks are scipy's linprog (HiGHS) and networkx's network simplex; one that is not installed is left out, and
+said to be. All values must be equal whole numbers. valgrind counts the instructions of a call and of the cold solve in
+it, where it is installed. It fails where a call takes more than 1.05 times as many as the solve, where the fastest call
+from Python takes more than 1.1 times the fastest from C on a year, where a thousand cold solves of 30 nights and 200
+stays are fewer than 20 times as many a second by the call as by the command, or where a thousand what-ifs of a year by
+the call of scenarios are fewer than 20 times as many a second as cold solves.
 """
 import os
 import re
@@ -18,6 +18,7 @@ import subprocess
 import sys
 import tempfile
 import time
+from array import array
 from pathlib import Path
 
 from generate import generate, problem_text
@@ -44,12 +45,13 @@ def best(call, runs):
 
 
 def columns_of(bidprice, rooms, rows):
-    """The columns of a problem, as arrays where numpy is there."""
+    """The columns of a problem as arrays: those of numpy where it is there, and else Python's own."""
     np = bidprice.numpy
     if np is None:
-        return [rooms, *(list(column) for column in zip(*rows))]
+        return [array("Q", rooms), *(array(code, column) for code, column in zip("IIQQ", zip(*rows)))]
     table = np.array(rows, dtype=np.uint64)
-    return [np.array(rooms, np.uint64), *(table[:, k].astype(np.uint32) for k in (0, 1)), *(table[:, k].copy() for k in (2, 3))]
+    nights = [table[:, k].astype(np.uint32) for k in (0, 1)]
+    return [np.array(rooms, np.uint64), *nights, table[:, 2].copy(), table[:, 3].copy()]
 
 
 def by_linprog(rooms, rows):
@@ -97,8 +99,11 @@ def time_year(bidprice, calls, folder):
     python, certificate = best(lambda: bidprice.solve_columns(*columns), 9)
     text, _ = best(lambda: bidprice.solve_text(path.read_bytes()), 5)
     process, _ = best(lambda: subprocess.run([program(), "solve", path], capture_output=True, check=True), 5)
-    print(f"365 nights, 3,000 stays: from C {c:.2f} ms, from Python {python:.2f}, by texts {text:.2f}, the command {process:.2f}")
-    for name, call, runs in (("linprog (HiGHS)", by_linprog(rooms, rows), 3), ("network simplex of networkx", by_networkx(rooms, rows), 1)):
+    print(f"365 nights, 3,000 stays: from C {c:.2f} ms, from Python {python:.2f}, by texts {text:.2f}, "
+          f"by the command {process:.2f}")
+    yardsticks = [("linprog (HiGHS)", by_linprog(rooms, rows), 3)]
+    yardsticks.append(("network simplex of networkx", by_networkx(rooms, rows), 1))
+    for name, call, runs in yardsticks:
         if call is None:
             print(f"skipped {name}: it is not installed")
             continue
@@ -110,21 +115,29 @@ def time_year(bidprice, calls, folder):
 
 
 def counted(calls, path, folder):
-    """How many times as many instructions as the cold solve in it a call takes; None where valgrind is missing."""
+    """How many times as many instructions a call takes as the cold solve in it; None where valgrind is missing."""
     if not shutil.which("valgrind"):
         print("skipped the count of instructions: valgrind is not installed")
         return None
     told = folder / "counts"
     words = ["valgrind", "-q", "--tool=callgrind", f"--callgrind-out-file={told}", calls, "numbers", path]
     subprocess.run(words, check=True, stdout=subprocess.DEVNULL)
-    lines = subprocess.run(["callgrind_annotate", "--inclusive=yes", told], check=True, capture_output=True, text=True).stdout
-    whole, solve = (int(re.search(rf"^ *([0-9,]+) .*{name}", lines, re.M)[1].replace(",", "")) for name in ("bidprice_solve_numbers", "Solver::cold"))
+    annotate = ["callgrind_annotate", "--inclusive=yes", told]
+    lines = subprocess.run(annotate, check=True, capture_output=True, text=True).stdout
+
+    def instructions(name):
+        found = re.search(rf"^ *([0-9,]+) .*{name}", lines, re.M)
+        return int(found[1].replace(",", "")) if found else sys.exit(f"callgrind saw no {name}")
+
+    # The compiler may put the solve into the function that asks for it.
+    whole, solve = instructions("bidprice_solve_numbers"), instructions("(?:Solver::cold|least::solved)")
     print(f"of {whole:,} instructions of a call the cold solve takes {solve:,}")
     return whole / solve
 
 
 def time_months(bidprice, folder):
-    """A thousand cold solves by the call, and by the command, each by its fastest batch; gives how many times as many a second."""
+    """A thousand cold solves by the call, and by the command, each by its fastest batch; gives how many times as many
+    a second."""
     rooms, rows = generate(*MONTH)
     path = folder / "month"
     path.write_text(problem_text(rooms, rows), "ascii")
@@ -141,7 +154,8 @@ def time_months(bidprice, folder):
 
     batches = SOLVES // BATCH
     (calls, _), (commands, _) = best(call, batches), best(command, batches)
-    print(f"30 nights, 200 stays, {SOLVES} cold solves in batches of {BATCH}: calls {calls / BATCH:.3f} ms each, commands {commands / BATCH:.3f}, {commands / calls:.1f} times as many a second")
+    print(f"30 nights, 200 stays, {SOLVES} cold solves in batches of {BATCH}: calls {calls / BATCH:.3f} ms each, "
+          f"commands {commands / BATCH:.3f}, {commands / calls:.1f} times as many a second")
     return commands / calls
 
 
@@ -151,7 +165,8 @@ def time_what_ifs(bidprice, solve):
     lists = [[("demand", draw * 7 % len(rows), draw % 20)] for draw in range(SOLVES)]
     problem, changes = bidprice.problem_text(rooms, rows), bidprice.scenarios_text(lists)
     taken, _ = best(lambda: bidprice.scenarios(problem, changes), 3)
-    print(f"{SOLVES} what-ifs of the year: {taken:.1f} ms, {solve * SOLVES / taken:.1f} times as many a second as cold solves")
+    print(f"{SOLVES} what-ifs of the year: {taken:.1f} ms, {solve * SOLVES / taken:.1f} times as many a second as cold "
+          "solves")
     return solve * SOLVES / taken
 
 

@@ -14,7 +14,7 @@ work="$(mktemp -d)"
 trap 'rm -rf "$work"' EXIT
 
 . "$here/crates.sh"
-copy_crates "$work" bp_turn
+copy_crates "$work" bp_types bp_turn
 mkdir -p "$work/crates/turn_bench/src" "$work/crates/turn_bench/proofs/hire" "$work/crates/turn_bench/proofs/work"
 echo 'turn_bench: bp_turn anyhow' >> "$work/crates.txt"
 

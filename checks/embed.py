@@ -1,10 +1,11 @@
 #!/usr/bin/env python3
 """Compares the calls of the library for C, and the Python module over it, with the program's commands, byte for byte.
 
-The library is built as it ships, by both of the kit's compilers. The calls answer the examples, random problems, spoiled
-texts and empty ones, each with buffers too short by one and too long; then they run under the address sanitizer and
-under valgrind, and with each request for memory refused in turn. Wants the kit's `rt` and gcc; valgrind and numpy where
-they are there.
+The library is built as it ships, by both of the kit's compilers. The calls answer the examples, random problems,
+spoiled texts and empty ones, each with buffers too short by one and too long; then they run under the address sanitizer
+and under valgrind, and with each request for memory refused in turn. The module is installed by pip, and the script
+that draws the spread of prices is run. Wants the kit's `rt` and gcc; valgrind, numpy and matplotlib where they are
+there.
 
     checks/embed.py [PROBLEMS]      how many random problems, 1000 where none is said
 """
@@ -42,6 +43,11 @@ def all_of(function, items):
         return list(pool.map(function, items))
 
 
+def beside(library):
+    """The environment in which the module takes this library."""
+    return {**os.environ, "BIDPRICE_LIBRARY": str(library / "libbidprice.so")}
+
+
 class Case:
     """A line of the program whose files hold these texts: a call, and what the command gave."""
 
@@ -69,17 +75,20 @@ class Case:
         rooms, stays = self.problem or (None, None)
         texts = [text.decode("latin-1") for text in self.texts]
         said = self.said.decode("latin-1")
-        return dict(call=self.call, texts=texts, numbers=self.numbers, status=self.status, said=said, rooms=rooms, stays=stays)
+        asked = dict(call=self.call, texts=texts, numbers=self.numbers, rooms=rooms, stays=stays)
+        return dict(asked, status=self.status, said=said)
 
 
 def some_problem(chance, kind):
     """A random problem within the limits of a text."""
     nights, stays = chance.choice([(1, 3), (3, 5), (8, 20), (14, 60), (30, 200)])
-    rooms, rows = generate(chance.randrange(1 << 30), nights, chance.choice([0, 1, 3, 10, 50]), chance.choice([0, 1, stays]))
+    seed, most = chance.randrange(1 << 30), chance.choice([0, 1, 3, 10, 50])
+    rooms, rows = generate(seed, nights, most, chance.choice([0, 1, stays]))
     if kind % 3 == 0:
         rooms = [chance.choice([0, 1, 2, 9, 10000]) for _ in rooms]
     if kind % 4 == 0:
-        rows = [(f, t, chance.choice([1, 5, 1000000000]), chance.choice([0, 1, 1000000])) for f, t, _, _ in rows]
+        rates, forecasts = [1, 5, 1000000000], [0, 1, 1000000]
+        rows = [(f, t, chance.choice(rates), chance.choice(forecasts)) for f, t, _, _ in rows]
     return rooms, rows
 
 
@@ -103,7 +112,8 @@ def group_of(chance, nights):
     """Nights and rooms of a group: mostly some that are there."""
     first = chance.randrange(nights)
     last = first + 1 + chance.randrange(min(7, nights - first))
-    odd = [(last, first, 1), (first, nights + 1, 1), (0, 1, 0), (0, 1, 10001), (1000000000, 1000000001, 1), (0, 4294967295, 2)]
+    odd = [(last, first, 1), (first, nights + 1, 1), (0, 1, 0), (0, 1, 10001)]
+    odd += [(1000000000, 1000000001, 1), (0, 999999999, 1), (0, 1000000000, 1), (0, 4294967295, 2), (0, 1, 10000)]
     return chance.choice([(first, last, chance.randrange(1, 6))] * 5 + odd)
 
 
@@ -114,9 +124,11 @@ def changes_of(chance, nights, stays):
         lines.append("scenario")
         for _ in range(chance.randrange(4)):
             first = chance.randrange(nights)
-            moved = f"rooms {first} {first + 1 + chance.randrange(min(7, nights - first))} {chance.choice(['up', 'down'])} {chance.randrange(1, 4)}"
+            last = first + 1 + chance.randrange(min(7, nights - first))
             stay = chance.randrange(stays) if stays else 0
-            lines.append(chance.choice([moved, f"demand {stay} {chance.randrange(20)}", f"rate {stay} {chance.randrange(1, 9000)}"]))
+            moved = f"rooms {first} {last} {chance.choice(['up', 'down'])} {chance.randrange(1, 4)}"
+            asked, paid = f"demand {stay} {chance.randrange(20)}", f"rate {stay} {chance.randrange(1, 9000)}"
+            lines.append(chance.choice([moved, asked, paid]))
     return "\n".join([*lines, "end", ""]).encode()
 
 
@@ -150,7 +162,8 @@ def example_cases():
 def random_cases(chance, program, many, folder):
     """What is asked of random problems, which are solved first."""
     problems = [some_problem(chance, kind) for kind in range(many)]
-    solved = [Case("solve", [problem_text(*problem).encode()]).put(folder, f"s{n}") for n, problem in enumerate(problems)]
+    texts = [problem_text(*problem).encode() for problem in problems]
+    solved = [Case("solve", [text]).put(folder, f"s{n}") for n, text in enumerate(texts)]
     all_of(lambda case: case.ask(program), solved)
     return [case for problem, first in zip(problems, solved) for case in cases_of(chance, *problem, first.said)]
 
@@ -158,7 +171,8 @@ def random_cases(chance, program, many, folder):
 def compiled(folder, name, library, *options):
     """The program of the calls, over a library."""
     program = folder / name
-    words = ["gcc", "-O1", "-g", *OPTIONS, *options, *WRAPPED, TOP / "checks" / "embed_calls.c", library / "libbidprice.a"]
+    parts = [TOP / "checks" / "embed_calls.c", library / "libbidprice.a"]
+    words = ["gcc", "-O1", "-g", *OPTIONS, *options, *WRAPPED, *parts]
     subprocess.run([*map(str, words), "-o", str(program)], check=True)
     return program
 
@@ -167,8 +181,8 @@ def compare(tally, name, cases, before, **environment):
     """Counts one check for each call: of each of its cases it gives what the command gave."""
     found = all_of(lambda case: ran([*before, case.call, *case.words], env={**os.environ, **environment}), cases)
     for call in sorted({case.call for case in cases}):
-        pairs = [(case, answer) for case, answer in zip(cases, found) if case.call == call]
-        wrong = [(case.words, answer, (case.status, case.said)) for case, answer in pairs if answer != (case.status, case.said)]
+        pairs = [(case, answer, (case.status, case.said)) for case, answer in zip(cases, found) if case.call == call]
+        wrong = [(case.words, answer, wanted) for case, answer, wanted in pairs if answer != wanted]
         tally.holds(f"{name}, {call}, {len(pairs)} cases", not wrong, f"{len(wrong)} differ, first {wrong[:1]!r:.2000}")
 
 
@@ -181,7 +195,7 @@ def compare_module(tally, name, cases, folder, library):
             tally.skip(f"{name}, {python}", "it is not there")
             continue
         words = [python, str(TOP / "checks" / "embed_python.py"), str(told)]
-        done = subprocess.run(words, capture_output=True, text=True, env={**os.environ, "BIDPRICE_LIBRARY": str(library / "libbidprice.so")})
+        done = subprocess.run(words, capture_output=True, text=True, env=beside(library))
         tally.holds(f"{name}, {python}", done.returncode == 0, done.stderr[-1000:])
         print(f"{name}, {python}: {done.stdout.strip()}")
 
@@ -197,12 +211,47 @@ def refuse_memory(tally, name, program, cases):
 def example_program(tally, name, folder, library):
     """Counts two checks: the example for C is built against either library, and prints what docs/embed.md says."""
     page = (TOP / "docs" / "embed.md").read_text("utf-8")
-    for kind, options in (("static", [library / "libbidprice.a"]), ("shared", [f"-L{library}", f"-Wl,-rpath,{library}", "-lbidprice"])):
+    static, shared = [library / "libbidprice.a"], [f"-L{library}", f"-Wl,-rpath,{library}", "-lbidprice"]
+    for kind, options in (("static", static), ("shared", shared)):
         program = folder / f"three_nights_{kind}"
         words = ["gcc", *OPTIONS, TOP / "examples" / "embed" / "three_nights.c", *options, "-o", program]
         subprocess.run([str(word) for word in words], check=True)
         status, said = ran([program])
-        tally.holds(f"{name}, the example with the {kind} library", status == 0 and said and said.decode() in page, said)
+        shown = status == 0 and said and said.decode() in page
+        tally.holds(f"{name}, the example with the {kind} library", shown, said)
+
+
+def check_install(tally, folder, library):
+    """Counts one check for each Python that has pip: the module installed by it solves without the repository."""
+    source = folder / "python"
+    shutil.copytree(TOP / "python", source, ignore=shutil.ignore_patterns("__pycache__", "libbidprice.so"))
+    shutil.copy(library / "libbidprice.so", source / "bidprice")
+    bare = {name: value for name, value in os.environ.items() if name not in ("BIDPRICE_LIBRARY", "PYTHONPATH")}
+    stays = "[(0, 2, 100, 3), (1, 3, 150, 1), (0, 1, 60, 1), (2, 3, 40, 5)]"
+    asked = f"import bidprice; print(bidprice.solve([2, 1, 2], {stays}), end='')"
+    wanted = (0, (EXAMPLE / "certificate").read_bytes())
+    for number, python in enumerate(dict.fromkeys(PYTHONS)):
+        if not Path(python).exists() or ran([python, "-m", "pip", "--version"])[0] != 0:
+            tally.skip(f"the module installed for {python}", "it has no pip")
+            continue
+        target = folder / f"installed{number}"
+        words = [python, "-m", "pip", "install", "-q", "--no-index", "--no-build-isolation", "--target", target, source]
+        installed = subprocess.run([str(word) for word in words], capture_output=True, text=True)
+        found = ran([python, "-c", asked], cwd=folder, env={**bare, "PYTHONPATH": str(target)})
+        tally.holds(f"the module installed for {python}", found == wanted, f"{found!r}, {installed.stderr[-500:]}")
+
+
+def check_spread(tally, folder, library):
+    """Counts one check: the script of a thousand draws solves the season and draws its picture."""
+    names = [TOP / "examples" / "season" / name for name in ("hotel.toml", "stays.csv", "forecast.csv", "bookings.csv")]
+    for python in dict.fromkeys(PYTHONS):
+        if Path(python).exists() and ran([python, "-c", "import numpy, matplotlib"])[0] == 0:
+            words = [python, TOP / "examples" / "embed" / "spread.py", *names, folder / "spread"]
+            status, said = ran(words, env=beside(library))
+            drawn = all((folder / f"spread.{kind}").exists() for kind in ("png", "svg"))
+            tally.holds("the spread of a season", status == 0 and drawn and said.startswith(b"value "), said)
+            return
+    tally.skip("the spread of a season", "no Python here has numpy and matplotlib")
 
 
 def largest_cases(cases, folder):
@@ -210,7 +259,8 @@ def largest_cases(cases, folder):
     largest = max((case for case in cases if case.problem and case.status == 0), key=lambda case: len(case.texts[0]))
     texts = largest.texts
     changes = b"scenarios 1\nscenario\nrate 0 9\nend\n"
-    more = [Case("solve", texts), Case("sheet", texts), Case("group", texts, (0, 1, 1)), Case("scenarios", [*texts, changes])]
+    more = [Case("solve", texts), Case("sheet", texts), Case("group", texts, (0, 1, 1))]
+    more.append(Case("scenarios", [*texts, changes]))
     few = [next(case for case in cases if case.call == call) for call in ("check", "judge")]
     return [largest, *few, *(case.put(folder, f"m{n}") for n, case in enumerate(more))]
 
@@ -247,6 +297,8 @@ def main():
         few = cases[: len(example_cases())] + chance.sample(cases, min(SLOW, len(cases)))
         for name, options in COMPILERS:
             check_library(tally, name, options, cases, few, folder)
+        check_install(tally, folder, folder / COMPILERS[0][0])
+        check_spread(tally, folder, folder / COMPILERS[0][0])
     tally.end()
 
 

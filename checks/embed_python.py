@@ -5,6 +5,7 @@
 CASES is a file of a list of cases, as JSON with each byte as one character. BIDPRICE_LIBRARY names the shared library.
 The last line says how many comparisons were made; the first that fails ends the script.
 """
+import array
 import json
 import sys
 from pathlib import Path
@@ -44,13 +45,19 @@ def raised(error, call, *given):
 
 
 def numbers_of(rooms, stays, text):
-    """The same numbers as lists, and as arrays where numpy is there."""
+    """The same numbers as lists, as arrays of Python's own, and as arrays of numpy where that is there."""
     same("numbers from lists", str(bidprice.solve(rooms, stays)).encode(), text)
+    lists = [rooms, *(list(column) for column in zip(*stays))] if stays else [rooms, [], [], [], []]
+    own = [array.array(code, column) for code, column in zip("QIIQQ", lists)]
+    before = [column.tolist() for column in own]
+    same("numbers from Python's arrays", str(bidprice.solve_columns(*own)).encode(), text)
+    same("Python's arrays as before", [column.tolist() for column in own], before)
     np = bidprice.numpy
     if np is None:
         return
     table = np.array(stays, dtype=np.uint64).reshape(-1, 4)
-    columns = [np.array(rooms, np.uint64), *(table[:, k].astype(np.uint32) for k in (0, 1)), *(table[:, k].copy() for k in (2, 3))]
+    nights = [table[:, k].astype(np.uint32) for k in (0, 1)]
+    columns = [np.array(rooms, np.uint64), *nights, table[:, 2].copy(), table[:, 3].copy()]
     before = [column.copy() for column in columns]
     certificate = bidprice.solve_columns(*columns)
     same("numbers from arrays", str(certificate).encode(), text)

@@ -3,16 +3,16 @@
 >>> solve([2, 1, 2], [(0, 2, 100, 3), (1, 3, 150, 1), (0, 1, 60, 1), (2, 3, 40, 5)]).prices
 [0, 100, 40]
 
-Nights count from 0, a stay is (arrival, departure, rate, forecast), money is in minor units, and rooms and forecasts are
-in units. Texts are bytes. The functions with texts give what the command of their name writes on files of these texts.
-While a call runs, other threads of Python run too: they have to leave its arrays alone.
+Nights count from 0, a stay is (arrival, departure, rate, forecast), money is in minor units, and rooms and forecasts
+are in units. Texts are bytes. The functions with texts give what the command of their name writes on files of these
+texts. While a call runs, other threads of Python run too: they have to leave its arrays alone.
 """
 from __future__ import annotations
 
 import array
 import ctypes
 import os
-from ctypes import POINTER, byref, c_char, c_char_p, c_size_t, c_uint32, c_uint64, c_void_p
+from ctypes import POINTER, addressof, byref, c_char, c_char_p, c_size_t, c_uint32, c_uint64, c_void_p, string_at
 from pathlib import Path
 from typing import Iterable, List, NamedTuple, Optional, Sequence, Tuple
 
@@ -59,14 +59,15 @@ class LimitRefused(Refused):
 
 
 class Certificate(NamedTuple):
-    """The optimum, the units that are sold of each stay, and the least price of each night. As a string it is the text."""
+    """The optimum, the units sold of each stay, and the least price of each night. As a string it is the text."""
 
     value: int
     sell: Sequence[int]
     prices: Sequence[int]
 
     def __str__(self) -> str:
-        sell, prices = (" ".join([word, *map(str, numbers)]) for word, numbers in (("sell", self.sell), ("prices", self.prices)))
+        rows = (("sell", self.sell), ("prices", self.prices))
+        sell, prices = (" ".join([word, *map(str, numbers)]) for word, numbers in rows)
         return "\n".join(["certificate 1", f"value {self.value}", sell, prices, "end", ""])
 
 
@@ -93,7 +94,8 @@ class _Refusal(ctypes.Structure):
 def _found() -> str:
     here = Path(__file__).resolve().parent
     beside = here / "libbidprice.so"
-    return os.environ.get("BIDPRICE_LIBRARY") or str(beside if beside.exists() else here.parents[1] / "out" / "libbidprice.so")
+    built = beside if beside.exists() else here.parents[1] / "out" / "libbidprice.so"
+    return os.environ.get("BIDPRICE_LIBRARY") or str(built)
 
 
 _TEXT = [c_char_p, c_size_t]
@@ -114,25 +116,27 @@ for _name, _types in _CALLS.items():
     _call[_name] = getattr(_library, f"bidprice_{_name}")
     _call[_name].argtypes, _call[_name].restype = _types, c_uint32
 
-# An address that is good for no numbers.
+# What is good for no numbers, and its address; the start of a buffer, which tells an address in half the time.
 _NOTHING = (c_uint64 * 1)()
+_NOWHERE = addressof(_NOTHING)
+_START = c_char * 0
+_array, _solve_numbers = array.array, _call["solve_numbers"]
 
 
-class _Column:
+def _column(numbers, code: str):
     """A column of machine words: what owns it, where it lies, and how many there are."""
-
-    def __init__(self, numbers, code: str):
-        if numpy is not None and isinstance(numbers, numpy.ndarray):
-            self.owner = _as_words(numbers, numpy.uint64 if code == "Q" else numpy.uint32)
-            address, self.length = self.owner.ctypes.data, self.owner.size
-        else:
-            words = isinstance(numbers, array.array) and numbers.typecode == code
-            self.owner = numbers if words else array.array(code, numbers)
-            address, self.length = self.owner.buffer_info()
-        self.address = address if self.length else ctypes.addressof(_NOTHING)
-
-    def words(self) -> Tuple[int, int]:
-        return (self.address, self.length)
+    if type(numbers) is _array and numbers.typecode == code:
+        owner = numbers
+    elif numpy is not None and isinstance(numbers, numpy.ndarray):
+        owner = _as_words(numbers, numpy.uint64 if code == "Q" else numpy.uint32)
+        length = owner.size
+        if length == 0:
+            return owner, _NOWHERE, 0
+        return owner, addressof(_START.from_buffer(owner)) if owner.flags.writeable else owner.ctypes.data, length
+    else:
+        owner = _array(code, numbers)
+    address, length = owner.buffer_info()
+    return owner, (address if length else _NOWHERE), length
 
 
 def _as_words(numbers, kind):
@@ -150,19 +154,29 @@ def solve_columns(rooms, arrive, depart, rate, forecast) -> Certificate:
     """The certificate of columns, with the least prices: rooms by night, and a row of the other four for each stay.
 
     Arrays of numpy give arrays of numpy, and are not copied where they are uint64 (rooms, rate, forecast) and uint32
-    (arrive, depart) in one piece. Other sequences of whole numbers give lists. Raises LimitRefused where a limit refuses
-    the numbers, and LengthsDiffer where the columns have not one length.
+    (arrive, depart) in one piece. Other sequences of whole numbers give lists; arrays of the module array are not
+    copied where their codes are Q and I, likewise. Raises LimitRefused where a limit refuses the numbers, and
+    LengthsDiffer where the columns have not one length.
     """
-    as_arrays = numpy is not None and isinstance(rooms, numpy.ndarray)
-    columns = [_Column(numbers, code) for numbers, code in zip((rooms, arrive, depart, rate, forecast), "QIIQQ")]
-    nights, stays = columns[0].length, columns[1].length
-    blank = (lambda n: numpy.empty(n, numpy.uint64)) if as_arrays else (lambda n: array.array("Q", bytes(8 * n)))
-    sell, prices = _Column(blank(stays), "Q"), _Column(blank(nights), "Q")
+    rooms, rooms_at, nights = _column(rooms, "Q")
+    arrive, arrive_at, stays = _column(arrive, "I")
+    depart, depart_at, departs = _column(depart, "I")
+    rate, rate_at, rates = _column(rate, "Q")
+    forecast, forecast_at, forecasts = _column(forecast, "Q")
+    as_arrays = type(rooms) is not _array
+    if as_arrays:
+        blank_sell, blank_prices = numpy.empty(stays, numpy.uint64), numpy.empty(nights, numpy.uint64)
+    else:
+        blank_sell, blank_prices = _array("Q", bytes(8 * stays)), _array("Q", bytes(8 * nights))
+    sell, sell_at, _ = _column(blank_sell, "Q")
+    prices, prices_at, _ = _column(blank_prices, "Q")
     value, refused = c_uint64(), _Refusal()
-    words = [word for column in columns for word in column.words()]
-    status = _call["solve_numbers"](*words, byref(value), *sell.words(), *prices.words(), byref(refused))
+    status = _solve_numbers(
+        rooms_at, nights, arrive_at, stays, depart_at, departs, rate_at, rates, forecast_at, forecasts,
+        byref(value), sell_at, stays, prices_at, nights, byref(refused),
+    )
     if status == 0:
-        return Certificate(value.value, *((o.owner if as_arrays else o.owner.tolist()) for o in (sell, prices)))
+        return Certificate(value.value, *((sell, prices) if as_arrays else (sell.tolist(), prices.tolist())))
     if status == 3:
         raise LimitRefused(refused.limit, refused.place)
     raise NoMemory() if status == 6 else LengthsDiffer("the columns have not one length")
@@ -190,13 +204,13 @@ def _text(name: str, size: int, *given) -> Answer:
     written = c_uint64()
     while True:
         buffer = (c_char * max(size, 1))()
-        status = _call[name](*words, ctypes.addressof(buffer), size, byref(written))
+        status = _call[name](*words, addressof(buffer), size, byref(written))
         if status != 8:
             break
         size = written.value
     if status == 6:
         raise NoMemory()
-    return Answer(status, buffer.raw[: written.value])
+    return Answer(status, string_at(buffer, written.value))
 
 
 def _accepted(answer: Answer) -> Answer:
@@ -232,7 +246,10 @@ def judge(problem: bytes, journal: bytes) -> Answer:
 
 def scenarios(problem: bytes, changes: bytes) -> bytes:
     """The optimum and the least prices of the problem after each list of changes, a line each."""
-    return _accepted(_text("scenarios", 1 << 16, problem, changes)).text
+    # A price has at most ten digits, so the lines need no more room than this, and nothing is asked for twice.
+    nights = min(problem.count(b" ", 0, problem.find(b"\nstays")), 400)
+    room = 128 + changes.count(b"scenario\n") * (128 + 11 * nights)
+    return _accepted(_text("scenarios", room, problem, changes)).text
 
 
 def scenarios_text(lists: Iterable[Iterable[Tuple]]) -> bytes:
@@ -249,7 +266,9 @@ def scenarios_text(lists: Iterable[Iterable[Tuple]]) -> bytes:
     return "\n".join([*lines, "end", ""]).encode()
 
 
-def what_if(rooms: Sequence[int], stays: Iterable[Tuple[int, int, int, int]], lists: Iterable[Iterable[Tuple]]) -> List[Outcome]:
+def what_if(
+    rooms: Sequence[int], stays: Iterable[Tuple[int, int, int, int]], lists: Iterable[Iterable[Tuple]]
+) -> List[Outcome]:
     """What each list of changes, as of `scenarios_text`, makes of the problem. It is solved once, and each list takes a
     restart from there."""
     outcomes = []

@@ -9,7 +9,8 @@ use Rattle.bp_types.proofs.Spans.{price_is_fall}
 use Rattle.bp_types.proofs.Suffixes.{price_from_sums}
 
 -- two sums that were read, for the nights of a span
-pub read_sums : (prices sums : List ℕ) (s : Span) (first last : ℕ) → SumUp prices sums → length sums ≡ length prices + 1 → s.from < s.to → s.to ≤ length prices →
+pub read_sums : (prices sums : List ℕ) (s : Span) (first last : ℕ) → SumUp prices sums → length sums ≡ length prices + 1 → s.from < s.to →
+    s.to ≤ length prices →
     first ≡ get_or sums s.from first → last ≡ get_or sums s.to last → price prices s + last ≡ first
 read_sums prices sums s first last made one_more ordered within is_first is_last =
     let fall = price_is_fall (price_from prices) prices s (price_from_sums prices) (omega arith) within in

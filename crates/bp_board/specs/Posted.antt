@@ -8,7 +8,7 @@ pub record Posted : Type 0 where
   pub position : ℕ
   pub certificate : Claim
 
--- one price for each of 1 to 400 nights, none above the greatest
+-- one price for each night, of which there are not too many, and none above the greatest
 pub record HasPrices (c : Claim) : Type 0 where
   pub some_night : 1 ≤ length c.prices
   pub nights : length c.prices ≤ MOST_NIGHTS

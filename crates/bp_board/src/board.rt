@@ -30,11 +30,12 @@ impl Model for Board {
 
     ghost view = { λ b. record { position = b.position; certificate = b.certificate } };
 
-    ghost invariant = { λ b. HasPrices b.certificate × (length b.sums.items ≡ length b.certificate.prices + 1) × SumUp b.certificate.prices b.sums.items };
+    ghost invariant = { λ b. HasPrices b.certificate × (length b.sums.items ≡ length b.certificate.prices + 1) ×
+        SumUp b.certificate.prices b.sums.items };
 }
 
 impl Board {
-    /// A board for a position, that is a number of entries, with a certificate of 1 to 400 prices.
+    /// A board for a position, that is a number of entries, with a certificate of 1 to `MOST_NIGHTS` prices.
     pub fn new(alloc: Global, position: u64, certificate: Certificate) -> Result<Board, Memory>
         requires { HasPrices certificate }
         ensures { IfOk result (λ b. b ≡ record { position = position; certificate = certificate }) }

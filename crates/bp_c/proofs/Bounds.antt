@@ -30,7 +30,8 @@ program_is p rooms stays r s =
     let Q : List Stay → Type 0 = λ x. p ≡ record { rooms = rooms; stays = x } in
     subst Q s (subst P r refl)
 
-pub solved_numbers : (p : Program) (rooms : List ℕ) (stays : List Stay) (c : Claim) → p.rooms ≡ rooms → p.stays ≡ stays → IsWithinLimits p → IsLeastCertificate p c →
+pub solved_numbers : (p : Program) (rooms : List ℕ) (stays : List Stay) (c : Claim) → p.rooms ≡ rooms → p.stays ≡ stays → IsWithinLimits p →
+    IsLeastCertificate p c →
     IsLeastCertificate (record { rooms = rooms; stays = stays }) c × (c.value < 2 ^ 64)
 solved_numbers p rooms stays c r s limits least =
     let P : Program → Type 0 = λ q. IsLeastCertificate q c in

@@ -1,17 +1,20 @@
--- From what a line gives, and what became of its text, to the answer of a call.
-use Rattle.std.proofs.Common.{◌≡◌, ◌⊎◌, ℕ, ◌<◌, ◌≤◌, ◌++◌, sym, subst, inl, inr, arith, List, length, drop}
+-- From what words give, and what became of their text, to the reply of a call.
+use Rattle.std.proofs.Common.{◌≡◌, ◌⊎◌, ℕ, ◌<◌, ◌≤◌, ◌++◌, refl, sym, subst, inl, inr, arith, List, length, drop}
 use Rattle.std.proofs.lemmas.Bool.{cases_lt}
 use Rattle.bp_edges.specs.Memory.{NamedBytes}
 use Rattle.bp_cli.specs.Words.{Word}
-use Rattle.bp_c.specs.Calls.{IsOutcomeOf, IsAnswered, IsTooShort}
+use Rattle.bp_c.specs.Calls.{IsOutcomeOf, IsGiven, IsAnswered, IsTooShort, Replies}
 
--- a line's status and text, the buffer and the length before and after, and the answer
-module _ (words : List Word) (files : List NamedBytes) (status : ℕ) (text old new : List ℕ) (before written result : ℕ)
-    (known : (status ≤ 3) ⊎ (status ≡ 6)) (outcome : status ≤ 3 → IsOutcomeOf words files status text)
+-- the words' status and text over files that are these, the buffer and the length before and after, and the result
+module _ (words : List Word) (files these : List NamedBytes) (status : ℕ) (text old new : List ℕ) (before written result : ℕ)
+    (are : these ≡ files) (gives : IsGiven words these status text)
     (no_memory : 3 < status → (result ≡ 6) × (new ≡ old) × (written ≡ before))
     (counted : status ≤ 3 → written ≡ length text)
     (filled : status ≤ 3 → length text ≤ length old → (result ≡ status) × (new ≡ text ++ drop (length text) old))
     (short : status ≤ 3 → length old < length text → (result ≡ 8) × (new ≡ old)) where
+  outcome : status ≤ 3 → IsOutcomeOf words files status text
+  outcome few = let P : List NamedBytes → Type 0 = λ f. IsOutcomeOf words f status text in subst P are (gives.outcome few)
+
   -- the text fits, or is too long, or is not there
   abbrev Fits : Type 0
   Fits = (status ≤ 3) × (result ≡ status) × (new ≡ text ++ drop (length text) old)
@@ -23,7 +26,7 @@ module _ (words : List Word) (files : List NamedBytes) (status : ℕ) (text old 
   Lacks = (result ≡ 6) × (new ≡ old) × (written ≡ before)
 
   ways : Fits ⊎ IsLong ⊎ Lacks
-  ways = elim known [
+  ways = elim gives.known [
     | inl few ↦ elim (cases_lt (length old) (length text)) [
       | inl long ↦ let s = short few long in inr (inl (few, long, s.0, s.1))
       | inr fits ↦ let f = filled few fits in inl (few, f.0, f.1)
@@ -59,17 +62,15 @@ module _ (words : List Word) (files : List NamedBytes) (status : ℕ) (text old 
   no_length_by (inr (inl (few, long, is, kept))) six = absurd (omega (arith, is, six))
   no_length_by (inr (inr (is, kept, same))) six = same
 
-  pub delivered_known : (result ≤ 3) ⊎ (result ≡ 6) ⊎ (result ≡ 8)
-  delivered_known = known_by ways
+  pub replies : Replies words files result old new before written
+  replies = record { known = known_by ways; answered = answered_by ways; short = short_by ways; kept = kept_by ways; no_length = no_length_by ways }
 
-  pub delivered_answer : result ≤ 3 → IsAnswered words files result old new written
-  delivered_answer = answered_by ways
-
-  pub delivered_short : result ≡ 8 → IsTooShort words files old written
-  delivered_short = short_by ways
-
-  pub delivered_kept : 3 < result → new ≡ old
-  delivered_kept = kept_by ways
-
-  pub delivered_no_length : result ≡ 6 → written ≡ before
-  delivered_no_length = no_length_by ways
+-- without memory for the files there is nothing to hand out
+pub replies_nothing : (words : List Word) (files : List NamedBytes) (old : List ℕ) (written : ℕ) → Replies words files 6 old old written written
+replies_nothing words files old written = record {
+  known = inr (inl refl);
+  answered = λ few. absurd (omega (arith, few));
+  short = λ eight. absurd (omega (arith, eight));
+  kept = λ more. refl;
+  no_length = λ six. refl;
+}

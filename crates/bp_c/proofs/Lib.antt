@@ -1,4 +1,5 @@
 pub mod Bounds
 pub mod Outcomes
 pub mod Held
+pub mod Lines
 pub mod Delivered

@@ -33,11 +33,14 @@ fn hand_out(text: &[u8], answer: &mut [u8], written: &mut u64) -> bool
 
 /// The status of a reply and its text, or that the buffer is too short for it.
 pub(crate) fn deliver(reply: &Reply, answer: &mut [u8], written: &mut u64) -> u32
-    ensures no_memory { 3 < reply.now.status → (result ≡ NO_MEMORY) × (answer.new ≡ answer.old) × (written.new ≡ written.old) }
+    ensures no_memory { 3 < reply.now.status
+        → (result ≡ NO_MEMORY) × (answer.new ≡ answer.old) × (written.new ≡ written.old) }
     ensures counted { reply.now.status ≤ 3 → written.new ≡ length reply.now.out.written }
     ensures filled { reply.now.status ≤ 3 → length reply.now.out.written ≤ length answer.old →
-        (result ≡ reply.now.status) × (answer.new ≡ reply.now.out.written ++ drop (length reply.now.out.written) answer.old) }
-    ensures short { reply.now.status ≤ 3 → length answer.old < length reply.now.out.written → (result ≡ TOO_SHORT) × (answer.new ≡ answer.old) }
+        (result ≡ reply.now.status)
+        × (answer.new ≡ reply.now.out.written ++ drop (length reply.now.out.written) answer.old) }
+    ensures short { reply.now.status ≤ 3 → length answer.old < length reply.now.out.written
+        → (result ≡ TOO_SHORT) × (answer.new ≡ answer.old) }
 {
     if reply.status > 3 {
         return NO_MEMORY;

@@ -125,10 +125,13 @@ pub extern "C" fn bidprice_solve_numbers(
     refused: &mut Refusal,
 ) -> u32
     ensures known { (result ≡ SOLVED) ⊎ (result ≡ REFUSED) ⊎ (result ≡ NO_MEMORY) ⊎ (result ≡ LENGTHS) }
-    ensures lengths { result ≡ LENGTHS ↔ (FitTogether rooms.now from.now to.now rate.now forecast.now sell.old prices.old → ⊥) }
-    ensures solved { result ≡ SOLVED → IsLeastCertificate (program_in rooms.now from.now to.now rate.now forecast.now) (record { value = value.new; sell = sell.new; prices = prices.new }) }
+    ensures lengths { result ≡ LENGTHS
+        ↔ (FitTogether rooms.now from.now to.now rate.now forecast.now sell.old prices.old → ⊥) }
+    ensures solved { result ≡ SOLVED → IsLeastCertificate (program_in rooms.now from.now to.now rate.now forecast.now)
+        (record { value = value.new; sell = sell.new; prices = prices.new }) }
     ensures accepted { result ≡ SOLVED → refusal rooms.now (stays_in from.now to.now rate.now forecast.now) ≡ None }
-    ensures refused { result ≡ REFUSED → IsRefusal (refusal rooms.now (stays_in from.now to.now rate.now forecast.now)) refused.new }
+    ensures refused { result ≡ REFUSED
+        → IsRefusal (refusal rooms.now (stays_in from.now to.now rate.now forecast.now)) refused.new }
     ensures value_kept { result ≢ SOLVED → value.new ≡ value.old }
     ensures sell_kept { result ≢ SOLVED → sell.new ≡ sell.old }
     ensures prices_kept { result ≢ SOLVED → prices.new ≡ prices.old }

@@ -44,7 +44,7 @@ fn numbers_are_solved_where_there_is_memory(rt: HostRuntime) -> Result<(), Fail>
 
 #[test]
 fn texts_are_answered_where_there_is_memory(rt: HostRuntime) -> Result<(), Fail> {
-    let mut answer = [0; 200];
+    let mut answer = [0; 1000];
     let mut written = 0;
     let checked = bidprice_check(rt.alloc(), PROBLEM, CERTIFICATE, &mut answer, &mut written);
     assert!(rt; checked == 0 && answer.starts_with(b"optimal 250\n") && written == 12);
@@ -52,6 +52,8 @@ fn texts_are_answered_where_there_is_memory(rt: HostRuntime) -> Result<(), Fail>
     assert!(rt; solved == 0 && answer.starts_with(CERTIFICATE));
     let quoted = bidprice_group(rt.alloc(), PROBLEM, 1, 2, 1, &mut answer, &mut written);
     assert!(rt; quoted == 0 && answer.starts_with(b"displacement 110\n"));
+    let asked = bidprice_group(rt.alloc(), PROBLEM, 1, 2, 0, &mut answer, &mut written);
+    assert!(rt; asked == 2 && answer.starts_with(b"usage:\nbidprice check "));
     let judged = bidprice_judge(
         rt.alloc(),
         PROBLEM,

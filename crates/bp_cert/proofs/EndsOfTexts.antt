@@ -19,4 +19,5 @@ pub first_line_of_certificate : HasNoEnd (codes "certificate 1")
 first_line_of_certificate = word_has_no_end (codes "certificate 1") refl
 
 pub certificate_no_ends : (c : Claim) → All HasNoEnd (all_certificate_lines c)
-certificate_no_ends c = line_in_front (codes "certificate 1") (claim_lines c ++ codes "end" ∷ []) first_line_of_certificate (All-append HasNoEnd (claim_lines c) (codes "end" ∷ []) (claim_no_ends c) (one_line (codes "end") (word_has_no_end (codes "end") refl)))
+certificate_no_ends c = line_in_front (codes "certificate 1") (claim_lines c ++ codes "end" ∷ []) first_line_of_certificate
+    (All-append HasNoEnd (claim_lines c) (codes "end" ∷ []) (claim_no_ends c) (one_line (codes "end") (word_has_no_end (codes "end") refl)))

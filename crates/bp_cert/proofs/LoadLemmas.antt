@@ -1,5 +1,32 @@
 -- Loads from arrivals and departures.
-use Rattle.std.proofs.Common.{◌≡◌, ℕ, zero, suc, ◌+◌, ◌*◌, ◌^◌, ◌<◌, ◌≤◌, ap, ◌∙◌, sym, arith, Bool, true, false, cond, ◌==◌, List, length, slice_index, set, get_or-set_same, get_or-set_other, inl, inr}
+use Rattle.std.proofs.Common.{
+  ◌≡◌,
+  ℕ,
+  zero,
+  suc,
+  ◌+◌,
+  ◌*◌,
+  ◌^◌,
+  ◌<◌,
+  ◌≤◌,
+  ap,
+  ◌∙◌,
+  sym,
+  arith,
+  Bool,
+  true,
+  false,
+  cond,
+  ◌==◌,
+  List,
+  length,
+  slice_index,
+  set,
+  get_or-set_same,
+  get_or-set_other,
+  inl,
+  inr,
+}
 use Rattle.std.proofs.lemmas.Bool.{cases_eq, cond-true, cond-false, eq-eqb, ne_eqb}
 use Rattle.std.proofs.lemmas.Bool.Decides.{nat_tests}
 use Rattle.bp_types.specs.declared.limits.TheConstants.{MOST_FORECAST, MOST_NODES}
@@ -64,7 +91,8 @@ pub counts_more : (list : List ℕ) (count : ℕ → ℕ) (k y : ℕ) → length
 counts_more list count k y each in_range so_far n h = elim (cases_eq k n) [
   | inl here ↦
       let at : slice_index (set list k (slice_index list k + y)) k ≡ slice_index list k + y = get_or-set_same list k _ 0 (omega arith) in
-      let same : slice_index (set list k (slice_index list k + y)) n ≡ slice_index (set list k (slice_index list k + y)) k = ap (slice_index (set list k (slice_index list k + y))) (sym here) in
+      let same : slice_index (set list k (slice_index list k + y)) n ≡ slice_index (set list k (slice_index list k + y)) k =
+      ap (slice_index (set list k (slice_index list k + y))) (sym here) in
       let was : slice_index list k ≡ count n = so_far k in_range ∙ ap count here in
       let added : cond (k == n) y 0 ≡ y = cond-true _ _ _ (eq-eqb k n here) in
       omega (arith, at, same, was, added)

@@ -1,6 +1,31 @@
 -- The text of a problem as a kind whose rows are the numbers of its lines: none, the nights, the rooms, the stays' count,
 -- four for each stay, and none.
-use Rattle.std.proofs.Common.{◌≡◌, ℕ, zero, suc, ◌+◌, ◌-◌, ◌≤◌, refl, ap, sym, subst, ◌∙◌, arith, List, [], ◌∷◌, ◌++◌, length, map, take, All, slice_index, append_assoc, length-append}
+use Rattle.std.proofs.Common.{
+  ◌≡◌,
+  ℕ,
+  zero,
+  suc,
+  ◌+◌,
+  ◌-◌,
+  ◌≤◌,
+  refl,
+  ap,
+  sym,
+  subst,
+  ◌∙◌,
+  arith,
+  List,
+  [],
+  ◌∷◌,
+  ◌++◌,
+  length,
+  map,
+  take,
+  All,
+  slice_index,
+  append_assoc,
+  length-append,
+}
 use Rattle.std.specs.Prelude.{codes, replicate}
 use Rattle.std.proofs.Math.ListN.{length-map}
 use Rattle.std.proofs.lemmas.List.{append-nil, length-replicate, get_or-replicate}
@@ -139,7 +164,8 @@ goes_on (a ∷ b ∷ c ∷ d ∷ done) n all some =
 tail_plain_fine : (nights n : ℕ) → 1 ≤ nights → tail_fine nights n (tail_plain n)
 tail_plain_fine nights zero some = tt
 tail_plain_fine nights (suc zero) some = tt
-tail_plain_fine nights (suc (suc n)) some = record { some = omega arith; inside = omega arith; rate = omega arith; small_rate = omega arith; forecast = omega arith }
+tail_plain_fine nights (suc (suc n)) some =
+    record { some = omega arith; inside = omega arith; rate = omega arith; small_rate = omega arith; forecast = omega arith }
 
 one_such : (P : ℕ → Type 0) (n : ℕ) → P n → All P (n ∷ [])
 one_such P n is zero d h = is
@@ -175,42 +201,56 @@ module _ (a b c d : List ℕ) where
       → row_lines line_at (a ∷ b ∷ c ∷ d ∷ before) (map stay_numbers stays ++ [] ∷ []) ≡ stay_lines stays
   stays_spelt before [] leaves = ap (λ n. line_of (tail_word n) [] ∷ []) leaves
   stays_spelt before (s ∷ stays) leaves =
-      ap (λ n. line_of (tail_word n) (stay_numbers s) ∷ row_lines line_at (a ∷ b ∷ c ∷ d ∷ (before ++ stay_numbers s ∷ [])) (map stay_numbers stays ++ [] ∷ [])) leaves
-      ∙ ap (λ ls. line_of (codes "stay") (stay_numbers s) ∷ ls) (stays_spelt (before ++ stay_numbers s ∷ []) stays (leaves_less before (stay_numbers s) (suc (length stays)) leaves))
+      ap (λ n. line_of (tail_word n) (stay_numbers s) ∷ row_lines line_at (a ∷ b ∷ c ∷ d ∷ (before ++ stay_numbers s ∷ []))
+      (map stay_numbers stays ++ [] ∷ [])) leaves
+      ∙ ap (λ ls. line_of (codes "stay") (stay_numbers s) ∷ ls)
+      (stays_spelt (before ++ stay_numbers s ∷ []) stays (leaves_less before (stay_numbers s) (suc (length stays)) leaves))
 
-  stays_formed : (before : Rows) (stays : List Stay) → LeavesTail before (suc (length stays)) → EachRow Form (a ∷ b ∷ c ∷ d ∷ before) (map stay_numbers stays ++ [] ∷ [])
+  stays_formed : (before : Rows) (stays : List Stay) → LeavesTail before (suc (length stays)) →
+      EachRow Form (a ∷ b ∷ c ∷ d ∷ before) (map stay_numbers stays ++ [] ∷ [])
   stays_formed before [] leaves = let P : ℕ → Type 0 = λ n. tail_form n [] in (subst P (sym leaves) refl, tt)
   stays_formed before (s ∷ stays) leaves =
       let P : ℕ → Type 0 = λ n. tail_form n (stay_numbers s) in
       (subst P (sym leaves) refl, stays_formed (before ++ stay_numbers s ∷ []) stays (leaves_less before (stay_numbers s) (suc (length stays)) leaves))
 
-  stays_fine : (before : Rows) (stays : List Stay) → LeavesTail before (suc (length stays)) → AreStaysWithin (length c) stays → EachRow Fine (a ∷ b ∷ c ∷ d ∷ before) (map stay_numbers stays ++ [] ∷ [])
+  stays_fine : (before : Rows) (stays : List Stay) → LeavesTail before (suc (length stays)) → AreStaysWithin (length c) stays →
+      EachRow Fine (a ∷ b ∷ c ∷ d ∷ before) (map stay_numbers stays ++ [] ∷ [])
   stays_fine before [] leaves all = let P : ℕ → Type 0 = λ n. tail_fine (length c) n [] in (subst P (sym leaves) tt, tt)
   stays_fine before (s ∷ stays) leaves all =
-      let P : ℕ → Type 0 = λ n. tail_fine (length c) n (stay_numbers s) in
-      (subst P (sym leaves) (all 0 s (omega arith)), stays_fine (before ++ stay_numbers s ∷ []) stays (leaves_less before (stay_numbers s) (suc (length stays)) leaves) (λ k e h. all (suc k) e (omega arith)))
+      let P : ℕ → Type 0 = λ n. tail_fine (length c) n (stay_numbers s) in (
+        subst P (sym leaves) (all 0 s (omega arith)),
+        stays_fine (before ++ stay_numbers s ∷ []) stays (leaves_less before (stay_numbers s) (suc (length stays)) leaves)
+            (λ k e h. all (suc k) e (omega arith)),
+      )
 
   -- stays alone, where as many lines are left and one more
-  pub some_stays_formed : (n : ℕ) (before : Rows) (stays : List Stay) → LeavesTail before (suc (length stays + n)) → EachRow Form (a ∷ b ∷ c ∷ d ∷ before) (map stay_numbers stays)
+  pub some_stays_formed : (n : ℕ) (before : Rows) (stays : List Stay) → LeavesTail before (suc (length stays + n)) →
+      EachRow Form (a ∷ b ∷ c ∷ d ∷ before) (map stay_numbers stays)
   some_stays_formed n before [] leaves = tt
   some_stays_formed n before (s ∷ stays) leaves =
       let P : ℕ → Type 0 = λ n. tail_form n (stay_numbers s) in
       let more : (slice_index d 0 + 1) - length before ≡ suc (suc (length stays + n)) = omega (arith, leaves) in
       (subst P (sym more) refl, some_stays_formed n (before ++ stay_numbers s ∷ []) stays (leaves_less before (stay_numbers s) (suc (length stays + n)) more))
 
-  pub some_stays_fine : (n : ℕ) (before : Rows) (stays : List Stay) → LeavesTail before (suc (length stays + n)) → AreStaysWithin (length c) stays → EachRow Fine (a ∷ b ∷ c ∷ d ∷ before) (map stay_numbers stays)
+  pub some_stays_fine : (n : ℕ) (before : Rows) (stays : List Stay) → LeavesTail before (suc (length stays + n)) → AreStaysWithin (length c) stays →
+      EachRow Fine (a ∷ b ∷ c ∷ d ∷ before) (map stay_numbers stays)
   some_stays_fine n before [] leaves all = tt
   some_stays_fine n before (s ∷ stays) leaves all =
       let P : ℕ → Type 0 = λ n. tail_fine (length c) n (stay_numbers s) in
-      let more : (slice_index d 0 + 1) - length before ≡ suc (suc (length stays + n)) = omega (arith, leaves) in
-      (subst P (sym more) (all 0 s (omega arith)), some_stays_fine n (before ++ stay_numbers s ∷ []) stays (leaves_less before (stay_numbers s) (suc (length stays + n)) more) (λ k e h. all (suc k) e (omega arith)))
+      let more : (slice_index d 0 + 1) - length before ≡ suc (suc (length stays + n)) = omega (arith, leaves) in (
+        subst P (sym more) (all 0 s (omega arith)),
+        some_stays_fine n (before ++ stay_numbers s ∷ []) stays (leaves_less before (stay_numbers s) (suc (length stays + n)) more)
+            (λ k e h. all (suc k) e (omega arith)),
+      )
 
-  pub some_stays_spelt : (n : ℕ) (before : Rows) (stays : List Stay) → LeavesTail before (suc (length stays + n)) → row_lines line_at (a ∷ b ∷ c ∷ d ∷ before) (map stay_numbers stays) ≡ map (λ s. line_of (codes "stay") (stay_numbers s)) stays
+  pub some_stays_spelt : (n : ℕ) (before : Rows) (stays : List Stay) → LeavesTail before (suc (length stays + n)) →
+      row_lines line_at (a ∷ b ∷ c ∷ d ∷ before) (map stay_numbers stays) ≡ map (λ s. line_of (codes "stay") (stay_numbers s)) stays
   some_stays_spelt n before [] leaves = refl
   some_stays_spelt n before (s ∷ stays) leaves =
       let more : (slice_index d 0 + 1) - length before ≡ suc (suc (length stays + n)) = omega (arith, leaves) in
       ap (λ n. line_of (tail_word n) (stay_numbers s) ∷ row_lines line_at (a ∷ b ∷ c ∷ d ∷ (before ++ stay_numbers s ∷ [])) (map stay_numbers stays)) more
-      ∙ ap (λ ls. line_of (codes "stay") (stay_numbers s) ∷ ls) (some_stays_spelt n (before ++ stay_numbers s ∷ []) stays (leaves_less before (stay_numbers s) (suc (length stays + n)) more))
+      ∙ ap (λ ls. line_of (codes "stay") (stay_numbers s) ∷ ls)
+      (some_stays_spelt n (before ++ stay_numbers s ∷ []) stays (leaves_less before (stay_numbers s) (suc (length stays + n)) more))
 
   -- rows in the form are stays and the last line
   rows_are_stays : (n : ℕ) (before done : Rows) → LeavesTail before (suc n) → EachRow Form (a ∷ b ∷ c ∷ d ∷ before) done → LeavesTail (before ++ done) 0
@@ -227,7 +267,8 @@ module _ (a b c d : List ℕ) where
   rows_are_stays (suc n) before (r ∷ done) leaves all none =
       let P : ℕ → Type 0 = λ n. tail_form n r in
       let four : length r ≡ 4 = subst P leaves all.0 in
-      let rest = rows_are_stays n (before ++ r ∷ []) done (leaves_less before r (suc n) leaves) all.1 (omega (arith, none, ap length (append_assoc before (r ∷ []) done))) in
+      let rest = rows_are_stays n (before ++ r ∷ []) done (leaves_less before r (suc n) leaves) all.1
+      (omega (arith, none, ap length (append_assoc before (r ∷ []) done))) in
       (ap (λ x. x ∷ (map stay_numbers (map stay_of (take n done)) ++ [] ∷ [])) (stay_again r four) ∙ ap (λ rs. r ∷ rs) rest.0, ap suc rest.1)
     where
       stay_again : (ns : List ℕ) → length ns ≡ 4 → stay_numbers (stay_of ns) ≡ ns
@@ -238,16 +279,24 @@ module _ (a b c d : List ℕ) where
       stay_again (p ∷ q ∷ s ∷ t ∷ []) e = refl
       stay_again (p ∷ q ∷ s ∷ t ∷ u ∷ ns) e = absurd (omega (arith, e))
 
-  rows_are_fine : (n : ℕ) (before done : Rows) → LeavesTail before (suc n) → EachRow Form (a ∷ b ∷ c ∷ d ∷ before) done → EachRow Fine (a ∷ b ∷ c ∷ d ∷ before) done → AreStaysWithin (length c) (map stay_of (take n done))
+  rows_are_fine : (n : ℕ) (before done : Rows) → LeavesTail before (suc n) → EachRow Form (a ∷ b ∷ c ∷ d ∷ before) done →
+      EachRow Fine (a ∷ b ∷ c ∷ d ∷ before) done → AreStaysWithin (length c) (map stay_of (take n done))
   rows_are_fine zero before done leaves all fine = λ k e h. absurd (omega arith)
   rows_are_fine (suc n) before [] leaves all fine = λ k e h. absurd (omega arith)
   rows_are_fine (suc n) before (r ∷ done) leaves all fine =
       let P : ℕ → Type 0 = λ n. tail_fine (length c) n r in
       let here : IsStayWithin (length c) r = subst P leaves fine.0 in
-      first_and_rest (stay_of r) (map stay_of (take n done)) (record { some = here.some; inside = here.inside; rate = here.rate; small_rate = here.small_rate; forecast = here.forecast })
+      first_and_rest (stay_of r) (map stay_of (take n done)) (record {
+        some = here.some;
+        inside = here.inside;
+        rate = here.rate;
+        small_rate = here.small_rate;
+        forecast = here.forecast;
+      })
       (rows_are_fine n (before ++ r ∷ []) done (leaves_less before r (suc n) leaves) all.1 fine.1)
     where
-      first_and_rest : (s : Stay) (ss : List Stay) → IsStayWithin (length c) (stay_numbers s) → AreStaysWithin (length c) ss → AreStaysWithin (length c) (s ∷ ss)
+      first_and_rest : (s : Stay) (ss : List Stay) → IsStayWithin (length c) (stay_numbers s) → AreStaysWithin (length c) ss →
+          AreStaysWithin (length c) (s ∷ ss)
       first_and_rest s ss first rest zero e h = first
       first_and_rest s ss first rest (suc k) e h = rest k e (omega arith)
 
@@ -261,7 +310,8 @@ ended p = omega (arith, length-append (map stay_numbers p.stays) ([] ∷ []), le
 
 spelt : (p : Program) → problem_lines p ≡ row_lines line_at [] (rows_of p)
 spelt p =
-    ap (λ ls. codes "problem 1" ∷ line_of (codes "nights") (length p.rooms ∷ []) ∷ line_of (codes "rooms") p.rooms ∷ line_of (codes "stays") (length p.stays ∷ []) ∷ ls)
+    ap (λ ls. codes "problem 1" ∷ line_of (codes "nights") (length p.rooms ∷ []) ∷ line_of (codes "rooms") p.rooms ∷ line_of (codes "stays")
+    (length p.stays ∷ []) ∷ ls)
     (sym (stays_spelt [] (length p.rooms ∷ []) p.rooms (length p.stays ∷ []) [] p.stays (omega arith)))
 
 pub head_fine : (rooms : List ℕ) (stays : ℕ) → IsHead rooms stays → EachRow Fine [] (head_rows rooms stays)
@@ -287,8 +337,16 @@ stays_of_problem p h k d l = record {
 
 fine : (p : Program) → IsProblem p → EachRow Fine [] (rows_of p)
 fine p within =
-    let head = head_fine p.rooms (length p.stays) (head_of_problem p within) in
-    (tt, (head.1.0, (head.1.1.0, (head.1.1.1.0, stays_fine [] (length p.rooms ∷ []) p.rooms (length p.stays ∷ []) [] p.stays (omega arith) (stays_of_problem p within)))))
+    let head = head_fine p.rooms (length p.stays) (head_of_problem p within) in (
+      tt,
+      (
+        head.1.0,
+        (
+          head.1.1.0,
+          (head.1.1.1.0, stays_fine [] (length p.rooms ∷ []) p.rooms (length p.stays ∷ []) [] p.stays (omega arith) (stays_of_problem p within)),
+        ),
+      ),
+    )
 
 value_again : (p : Program) → program_of (rows_of p) ≡ p
 value_again p = let made : List Stay → Program = λ ss. record { rooms = p.rooms; stays = ss } in ap made (back p.stays)
@@ -319,7 +377,8 @@ rows_again (a ∷ b ∷ c ∷ d ∷ done) all none =
     ∙ ap (λ xs. a ∷ b ∷ c ∷ d ∷ xs) rest.0
 
 -- a head and its stays are a problem
-pub problem_within : (rooms : List ℕ) (stays : List Stay) → IsHead rooms (length stays) → AreStaysWithin (length rooms) stays → IsProblem (record { rooms = rooms; stays = stays })
+pub problem_within : (rooms : List ℕ) (stays : List Stay) → IsHead rooms (length stays) → AreStaysWithin (length rooms) stays →
+    IsProblem (record { rooms = rooms; stays = stays })
 problem_within rooms stays head all = record {
   limits = record {
     some_night = head.some_night;
@@ -348,7 +407,13 @@ within (a ∷ b ∷ c ∷ d ∷ done) all none fine =
     let rest = rows_are_stays a b c d k [] done (omega arith) all.1.1.1.1 none in
     let counted : length (map stay_of (take k done)) ≡ k = length-map (take k done) stay_of ∙ rest.1 in
     problem_within c (map stay_of (take k done))
-    (record { some_night = omega (arith, each, nights.0); nights = omega (arith, each, nights.1); few_rooms = fine.1.1.0.1; few_stays = omega (arith, counted, few.1) })
+    (record {
+      some_night = omega (arith, each, nights.0);
+      nights = omega (arith, each, nights.1);
+      few_rooms = fine.1.1.0.1;
+      few_stays =
+          omega (arith, counted, few.1);
+    })
     (rows_are_fine a b c d k [] done (omega arith) all.1.1.1.1 fine.1.1.1.1)
 
 pub problem_kind : IsKind problem_lines IsProblem line_at Form Fine lines_left plain rows_of program_of

@@ -65,7 +65,8 @@ pub fn draft_certificate<K: Sink>(
     certificate: &Certificate,
     out: &mut K,
 ) -> Result<(), WriteError>
-    ensures writes { Drafts (K.written out.old) (K.written out.new) draft.old draft.new (certificate_text certificate.now) result }
+    ensures writes { Drafts (K.written out.old) (K.written out.new) draft.old draft.new
+        (certificate_text certificate.now) result }
     ensures failed { IsErrOf result WriteError.Failed → Rose (K.faults out.old) (K.faults out.new) }
     ensures unfailing { K.steady out.old → ¬ IsErrOf result WriteError.Failed }
     ensures steady { K.steady out.old → K.steady out.new }

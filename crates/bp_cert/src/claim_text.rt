@@ -70,7 +70,8 @@ pub fn draft_claim<K: Sink>(
     certificate: &Certificate,
     out: &mut K,
 ) -> Result<(), WriteError>
-    ensures writes { Drafts (K.written out.old) (K.written out.new) draft.old draft.new (text_of (claim_lines certificate.now)) result }
+    ensures writes { Drafts (K.written out.old) (K.written out.new) draft.old draft.new
+        (text_of (claim_lines certificate.now)) result }
     ensures failed { IsErrOf result WriteError.Failed → Rose (K.faults out.old) (K.faults out.new) }
     ensures unfailing { K.steady out.old → ¬ IsErrOf result WriteError.Failed }
     ensures steady { K.steady out.old → K.steady out.new }

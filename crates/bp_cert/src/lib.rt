@@ -1,4 +1,13 @@
 //! Certificates: the checker, and the texts of problems and certificates.
+//!
+//! A certificate is written as it was read.
+//!
+//! ```
+//! let certificate = read_certificate(alloc, &text)?;
+//! let mut out = MemorySink::new(Vec::new(alloc));
+//! write_certificate(alloc, &certificate, &mut out)?;
+//! assert!(rt; out.written() == text.as_slice());
+//! ```
 #![tactic(auto)]
 
 mod certificate_text;

@@ -24,7 +24,8 @@ impl Loads {
     /// the nights.
     pub fn of(instance: &Instance, sell: &[u64]) -> Loads
         requires one_each { length sell.now ≡ length instance.now.stays }
-        requires within { NoneAbove (λ j. (stay_at instance.now j).forecast) (slice_index sell.now) (length instance.now.stays) }
+        requires within { NoneAbove (λ j. (stay_at instance.now j).forecast) (slice_index sell.now)
+            (length instance.now.stays) }
         ensures { AreLoads instance.now sell.now result.loads }
     {
         let moves = Moves::of(instance, sell);
@@ -50,7 +51,8 @@ impl Loads {
 impl Moves {
     fn of(instance: &Instance, sell: &[u64]) -> Moves
         requires one_each { length sell.now ≡ length instance.now.stays }
-        requires within { NoneAbove (λ j. (stay_at instance.now j).forecast) (slice_index sell.now) (length instance.now.stays) }
+        requires within { NoneAbove (λ j. (stay_at instance.now j).forecast) (slice_index sell.now)
+            (length instance.now.stays) }
         ensures arrivals { Counts (arriving instance.now sell.now) result.arrivals }
         ensures departures { Counts (departing instance.now sell.now) result.departures }
     {

@@ -3,7 +3,16 @@ ghost use Rattle.std.specs.Prelude.{◌≡◌, ◌≤◌, length, map, codes, Ma
 ghost use Rattle.bp_types.specs.Program.{Program};
 ghost use Rattle.bp_text.specs.Reading.{IsReading, IsText, GivesLines, seen_as};
 ghost use Rattle.bp_text.specs.Forms.{IsLine};
-ghost use Rattle.bp_cert.specs.Texts.{problem_lines, head_lines, stay_line, stay_numbers, IsProblem, IsHead, IsStayWithin, AreStaysWithin};
+ghost use Rattle.bp_cert.specs.Texts.{
+  problem_lines,
+  head_lines,
+  stay_line,
+  stay_numbers,
+  IsProblem,
+  IsHead,
+  IsStayWithin,
+  AreStaysWithin,
+};
 ghost use Rattle.bp_text.specs.Lines.{Given};
 
 use bp_text::{Bounds, Lines, TextError, at_end, exact_line, number_line, word_line};
@@ -20,7 +29,8 @@ struct Head {
 
 fn read_head(alloc: Global, lines: &mut Lines<'_>) -> Result<Head, TextError>
     ensures { MatchResult result
-        (λ h. IsHead h.rooms.items h.stays × GivesLines lines.old lines.new (head_lines h.rooms.items h.stays) lines.new.rest)
+        (λ h. IsHead h.rooms.items h.stays ×
+        GivesLines lines.old lines.new (head_lines h.rooms.items h.stays) lines.new.rest)
         (λ e. IsReading problem_lines IsProblem lines.old lines.new (Err e)) }
 {
     let mut rooms = Vec::new(alloc);
@@ -71,8 +81,10 @@ fn read_stays(
 ) -> Result<Vec<Stay>, TextError>
     requires { IsHead rooms.now count }
     ensures { MatchResult result
-        (λ ss. (length ss.items ≡ count) × AreStaysWithin (length rooms.now) ss.items × GivesLines lines.old lines.new (map stay_line ss.items) lines.new.rest)
-        (λ e. (start : Given) → GivesLines start lines.old (head_lines rooms.now count) lines.old.rest → IsReading problem_lines IsProblem start lines.new (Err e)) }
+        (λ ss. (length ss.items ≡ count) × AreStaysWithin (length rooms.now) ss.items ×
+        GivesLines lines.old lines.new (map stay_line ss.items) lines.new.rest)
+        (λ e. (start : Given) → GivesLines start lines.old (head_lines rooms.now count) lines.old.rest →
+        IsReading problem_lines IsProblem start lines.new (Err e)) }
 {
     let nights = rooms.len() as u32;
     let mut stays = Vec::new(alloc);

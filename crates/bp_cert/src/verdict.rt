@@ -30,7 +30,8 @@ pub enum Verdict {
 /// Its time grows with nights plus stays.
 pub fn check(instance: &Instance, certificate: &Certificate) -> Verdict
     ensures first { IsVerdict instance.now certificate.now result }
-    ensures exact { Certifies instance.now certificate.now.value certificate.now.sell certificate.now.prices → result ≡ Verdict.Optimal certificate.now.value }
+    ensures exact { Certifies instance.now certificate.now.value certificate.now.sell certificate.now.prices →
+        result ≡ Verdict.Optimal certificate.now.value }
     ensures optimum { SaysOptimum instance.now result }
 {
     law::certificate_is_optimal();
@@ -39,7 +40,8 @@ pub fn check(instance: &Instance, certificate: &Certificate) -> Verdict
 
 fn first_verdict(instance: &Instance, certificate: &Certificate) -> Verdict
     ensures first { IsVerdict instance.now certificate.now result }
-    ensures exact { Certifies instance.now certificate.now.value certificate.now.sell certificate.now.prices → result ≡ Verdict.Optimal certificate.now.value }
+    ensures exact { Certifies instance.now certificate.now.value certificate.now.sell certificate.now.prices →
+        result ≡ Verdict.Optimal certificate.now.value }
 {
     let sell = certificate.sell.as_slice();
     let prices = certificate.prices.as_slice();
@@ -84,7 +86,8 @@ fn above_forecast(instance: &Instance, sell: &[u64]) -> Option<u32>
     requires { length sell.now ≡ length instance.now.stays }
     ensures { MatchOption result
         (NoneAbove (λ j. (stay_at instance.now j).forecast) (slice_index sell.now) (length instance.now.stays))
-        (λ j. IsFirstAbove (λ j. (stay_at instance.now j).forecast) (slice_index sell.now) (length instance.now.stays) j) }
+        (λ j. IsFirstAbove (λ j. (stay_at instance.now j).forecast) (slice_index sell.now) (length instance.now.stays)
+        j) }
 {
     for stay in 0..instance.stays() {
         if sell[stay as usize] > instance.stay(stay).forecast {
@@ -96,10 +99,12 @@ fn above_forecast(instance: &Instance, sell: &[u64]) -> Option<u32>
 
 fn overfull_night(instance: &Instance, sell: &[u64]) -> Option<(u32, u128)>
     requires one_each { length sell.now ≡ length instance.now.stays }
-    requires within { NoneAbove (λ j. (stay_at instance.now j).forecast) (slice_index sell.now) (length instance.now.stays) }
+    requires within { NoneAbove (λ j. (stay_at instance.now j).forecast) (slice_index sell.now)
+        (length instance.now.stays) }
     ensures { MatchOption result
         (NoneAbove (slice_index instance.now.rooms) (load instance.now sell.now) (length instance.now.rooms))
-        (λ w. IsFirstAbove (slice_index instance.now.rooms) (load instance.now sell.now) (length instance.now.rooms) w.0 × (w.1 ≡ load instance.now sell.now w.0)) }
+        (λ w. IsFirstAbove (slice_index instance.now.rooms) (load instance.now sell.now) (length instance.now.rooms)
+        w.0 × (w.1 ≡ load instance.now sell.now w.0)) }
 {
     let loads = Loads::of(instance, sell);
     for night in 0..instance.nights() {

@@ -1,5 +1,30 @@
 -- From what is read of the words behind a command to what a whole line is answered.
-use Rattle.std.proofs.Common.{◌≡◌, ◌∙◌, ℕ, ◌<◌, refl, ap, arith, codes, Bool, true, false, cond, List, [], ◌∷◌, length, drop, get_or, Option, Some, None, MatchOption, String, string_bytes}
+use Rattle.std.proofs.Common.{
+  ◌≡◌,
+  ◌∙◌,
+  ℕ,
+  ◌<◌,
+  refl,
+  ap,
+  arith,
+  codes,
+  Bool,
+  true,
+  false,
+  cond,
+  List,
+  [],
+  ◌∷◌,
+  length,
+  drop,
+  get_or,
+  Option,
+  Some,
+  None,
+  MatchOption,
+  String,
+  string_bytes,
+}
 use Rattle.std.specs.Option.{ok_or}
 use Rattle.std.specs.Str.{bytes_eq}
 use Rattle.std.specs.declared.alloc.Global.{Global}
@@ -24,7 +49,8 @@ task_answered words None never = absurd never
 task_answered words (Some task) asks = asks
 
 -- one command is named, or one of those after it
-named : (t : Word) (f g : Form) (rest : Option Form) → (rest ≡ Some g → t ≡ command_of g) → cond (bytes_eq t (command_of f)) (Some f) rest ≡ Some g → t ≡ command_of g
+named : (t : Word) (f g : Form) (rest : Option Form) → (rest ≡ Some g → t ≡ command_of g) → cond (bytes_eq t (command_of f)) (Some f) rest ≡ Some g →
+    t ≡ command_of g
 named t f g rest next e = by_test (bytes_eq t (command_of f)) e (bytes_eq-Decides t (command_of f)).0
   where
     by_test : (b : Bool) → cond b (Some f) rest ≡ Some g → (b ≡ true → t ≡ command_of f) → t ≡ command_of g
@@ -38,6 +64,7 @@ form_tells t g e =
     (named t Demo g _ (named t Scenarios g _ (named t Sheet g _ (named t Portfolio g None (λ none. absurd (cc)))))))))))) e
 
 -- the first word, and those behind it
-pub first_and_rest : (words : List (String Global)) (first : String Global) → 0 < length words → first ≡ get_or words 0 first → texts words ≡ string_bytes first ∷ texts (drop 1 words)
+pub first_and_rest : (words : List (String Global)) (first : String Global) → 0 < length words → first ≡ get_or words 0 first →
+    texts words ≡ string_bytes first ∷ texts (drop 1 words)
 first_and_rest [] first some is = absurd (omega arith)
 first_and_rest (word ∷ words) first some is = let same : first ≡ word = is in cc

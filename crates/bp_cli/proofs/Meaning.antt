@@ -1,5 +1,29 @@
 -- The task that words mean, if they mean one.
-use Rattle.std.proofs.Common.{◌≡◌, ◌∙◌, ℕ, ◌≤◌, sym, subst, refl, arith, codes, Bool, true, false, cond, List, [], ◌∷◌, length, get_or, drop, Option, Some, None, ap}
+use Rattle.std.proofs.Common.{
+  ◌≡◌,
+  ◌∙◌,
+  ℕ,
+  ◌≤◌,
+  sym,
+  subst,
+  refl,
+  arith,
+  codes,
+  Bool,
+  true,
+  false,
+  cond,
+  List,
+  [],
+  ◌∷◌,
+  length,
+  get_or,
+  drop,
+  Option,
+  Some,
+  None,
+  ap,
+}
 use Rattle.std.specs.Str.{bytes_eq}
 use Rattle.std.specs.Str.Parse.{digits_value}
 use Rattle.std.proofs.lemmas.Str.Parse.{digit_at}
@@ -7,7 +31,32 @@ use Rattle.bp_cli.specs.declared.form.Form.{Form}
 use Rattle.bp_cli.specs.declared.form.Form.TheVariants as form
 use Rattle.bp_cli.specs.declared.number.TheConstants.{WORKERS}
 use Rattle.bp_cli.specs.Words.{Word, IsFileName, IsNumber}
-use Rattle.bp_cli.specs.Tasks.{Task, check, solve, group, judge, desk, replay, report, demo, scenarios, sheet, portfolio, FiveNames, AreFileNames, AsksGroup, AsksDemo, AsksDesk, AsksPortfolio, AsksWorkers, GiveWorkers, workers_words, names_and, Asks, IsPlain}
+use Rattle.bp_cli.specs.Tasks.{
+  Task,
+  check,
+  solve,
+  group,
+  judge,
+  desk,
+  replay,
+  report,
+  demo,
+  scenarios,
+  sheet,
+  portfolio,
+  FiveNames,
+  AreFileNames,
+  AsksGroup,
+  AsksDemo,
+  AsksDesk,
+  AsksPortfolio,
+  AsksWorkers,
+  GiveWorkers,
+  workers_words,
+  names_and,
+  Asks,
+  IsPlain,
+}
 use Rattle.bp_cli.specs.Forms.{form_of}
 use Rattle.bp_cli.specs.Clap.{DeskLine, IsPlainLine, IsPlainOption, words_of}
 
@@ -88,7 +137,8 @@ plain_names words (sheet problem, asks) none = absurd (let e : form_of (codes "s
 plain_names words (portfolio list workers, asks) none = absurd (let e : form_of (codes "portfolio") ≡ None = rw asks.words_are at none in (cc))
 
 -- the option and its word in the words of a number of workers
-given_words : (given : Option Word) (option word : Word) (workers : ℕ) → option ∷ word ∷ [] ≡ workers_words given → AsksWorkers given workers → GiveWorkers option word
+given_words : (given : Option Word) (option word : Word) (workers : ℕ) → option ∷ word ∷ [] ≡ workers_words given → AsksWorkers given workers →
+    GiveWorkers option word
 given_words None option word workers e is = absurd (cc)
 given_words (Some w) option word workers e (number, few) =
     let named : option ≡ codes "--workers" = ap (λ (l : List Word). get_or l 0 []) e in
@@ -96,7 +146,8 @@ given_words (Some w) option word workers e (number, few) =
     (named, workers, rw same number, few)
 
 -- the words of a desk with a number of workers
-pub desk_gives : (names : FiveNames) (option word : Word) → IsPlain (codes "desk" ∷ names_and names (option ∷ word ∷ [])) → AreFileNames names × GiveWorkers option word
+pub desk_gives : (names : FiveNames) (option word : Word) → IsPlain (codes "desk" ∷ names_and names (option ∷ word ∷ [])) →
+    AreFileNames names × GiveWorkers option word
 desk_gives names option word plain =
     let asks = plain_means (codes "desk" ∷ names_and names (option ∷ word ∷ [])) plain in
     (asks.file_names, given_words asks.given option word (workers_by word) (ap (λ (l : List Word). drop 6 l) asks.words_are) asks.workers_are)

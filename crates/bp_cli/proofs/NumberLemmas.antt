@@ -11,7 +11,8 @@ pub numerals : IsNumeralModel (AllDigits 10) (digits_value 10)
 numerals = numerals_by_value (AllDigits 10) tells_digits
 
 -- a number of 1 to 9 digits is what is read of them
-pub number_read : {E : Type 0} (bs : List ℕ) (r : Result ℕ E) → length bs ≤ 9 → OkIff r (AllDigits 10 bs × (0 < length bs) × (digits_value 10 bs < 2 ^ 32)) (digits_value 10 bs)
+pub number_read : {E : Type 0} (bs : List ℕ) (r : Result ℕ E) → length bs ≤ 9 →
+    OkIff r (AllDigits 10 bs × (0 < length bs) × (digits_value 10 bs < 2 ^ 32)) (digits_value 10 bs)
     → MatchOption (result_ok r) ((n : ℕ) → IsNumber bs n → ⊥) (IsNumber bs)
 number_read bs (Ok n) short is = record { digits = (is.0.1, is.0.0); short = short; value = is.1 }
 number_read bs (Err e) short none = λ n number.

@@ -1,7 +1,32 @@
 -- What `clap` makes of five plain words, and of `--workers` with a sixth: a word that does not begin with `-` goes to
 -- what waits for it.
 use Rattle.std.proofs.Common.{Bool, ◌&&◌, subst, ◌≡◌, ◌≢◌, ◌==◌, ℕ, true, false, List, [], ◌∷◌, Option, Some, None, codes, refl, sym, ap, ◌∙◌, ne_eqb}
-use Rattle.clap.specs.Walk.{Held, Names, Row, Rule, Step, Text, Waiting, Walk, positional, to_positional, arg_by_index, finished, settled, idle, option, value, walked, walk, walk_from, word_met, plain_word, after_step, nothing_held, first_of}
+use Rattle.clap.specs.Walk.{
+  Held,
+  Names,
+  Row,
+  Rule,
+  Step,
+  Text,
+  Waiting,
+  Walk,
+  positional,
+  to_positional,
+  arg_by_index,
+  finished,
+  settled,
+  idle,
+  option,
+  value,
+  walked,
+  walk,
+  walk_from,
+  word_met,
+  plain_word,
+  after_step,
+  nothing_held,
+  first_of,
+}
 use Rattle.clap.specs.Simple.{App, built, is_simple, matches_of, Shape, entered}
 use Rattle.clap.specs.Takes.{takes, step_passes, turn_passes, walk_passes, word_passes, settle_passes, default_passes, is_valid, entered_passes}
 use Rattle.std.specs.List.{list_all}
@@ -19,7 +44,8 @@ unfolding clap_on_literals
 simple = refl
 
 -- a word that does not begin with `-` goes to what waits for it
-plain : (c : List Rule) (waiting : Waiting) (position x : ℕ) (xs : List ℕ) (h : Held) → x ≢ 45 → word_met c [] false waiting position (x ∷ xs) h ≡ plain_word c waiting (x ∷ xs) h
+plain : (c : List Rule) (waiting : Waiting) (position x : ℕ) (xs : List ℕ) (h : Held) → x ≢ 45 →
+    word_met c [] false waiting position (x ∷ xs) h ≡ plain_word c waiting (x ∷ xs) h
 plain c idle position x xs h n = let e : (x == 45) ≡ false = ne_eqb _ _ n in rw (e, e) refl
 plain c (option id) position x xs h n = let e : (x == 45) ≡ false = ne_eqb _ _ n in rw (e, e) refl
 plain c positional position x xs h n = let e : (x == 45) ≡ false = ne_eqb _ _ n in rw (e, e) refl
@@ -32,7 +58,8 @@ at position h = record { held = h; waiting = idle; position = position; is_trail
 abbrev then : ℕ → Held → Text → Held
 then position h word = (to_positional rules (arg_by_index rules position) word (at position h) h).held
 
-goes : (position : ℕ) (h : Held) (word : Text) → IsFileName word → walked rules [] (at position h) word ≡ to_positional rules (arg_by_index rules position) word (at position h) h
+goes : (position : ℕ) (h : Held) (word : Text) → IsFileName word →
+    walked rules [] (at position h) word ≡ to_positional rules (arg_by_index rules position) word (at position h) h
 unfolding walked
 goes position h [] p = absurd p
 goes position h (x ∷ xs) p = ap (λ (met : Held × Step). after_step rules (x ∷ xs) (at position h) met.0 met.1) (plain rules idle position x xs h p)
@@ -63,15 +90,18 @@ word_ok h (option id) x xs p = let e : (x == 45) ≡ false = ne_eqb _ _ p in rw 
 word_ok h positional x xs p = let e : (x == 45) ≡ false = ne_eqb _ _ p in rw (e, e) refl
 
 pass_step : (position : ℕ) (h : Held) (word : Text) (rest : List Text) (w : Walk) → IsFileName word → step_passes top position h value ≡ true
-    → to_positional rules (arg_by_index rules position) word (at position h) h ≡ w → walk_passes top [] w rest ≡ true → walk_passes top [] (at position h) (word ∷ rest) ≡ true
+    → to_positional rules (arg_by_index rules position) word (at position h) h ≡ w → walk_passes top [] w rest ≡ true →
+    walk_passes top [] (at position h) (word ∷ rest) ≡ true
 unfolding walk_passes
 pass_step position h [] rest w p step moved more = absurd p
 pass_step position h (x ∷ xs) rest w p step moved more =
     let met = plain rules idle position x xs h p in
     let going = goes position h (x ∷ xs) p in
-    and_true _ _ (and_true _ _ (word_ok h idle x xs p) (subst (λ (m : Held × Step). step_passes top position m.0 m.1 ≡ true) (sym met) step)) (subst (λ (z : Walk). walk_passes top [] z rest ≡ true) (sym (going ∙ moved)) more)
+    and_true _ _ (and_true _ _ (word_ok h idle x xs p) (subst (λ (m : Held × Step). step_passes top position m.0 m.1 ≡ true) (sym met) step))
+    (subst (λ (z : Walk). walk_passes top [] z rest ≡ true) (sym (going ∙ moved)) more)
 
-passes_five : (n : DeskLine) (rest : List Text) → IsPlainLine n → walk_passes top [] (at 6 (five n.names.hotel n.names.stays n.names.forecast n.names.bookings n.names.last)) rest ≡ true
+passes_five : (n : DeskLine) (rest : List Text) → IsPlainLine n →
+    walk_passes top [] (at 6 (five n.names.hotel n.names.stays n.names.forecast n.names.bookings n.names.last)) rest ≡ true
     → walk_passes top [] (walk_from nothing_held) (n.names.hotel ∷ n.names.stays ∷ n.names.forecast ∷ n.names.bookings ∷ n.names.last ∷ rest) ≡ true
 unfolding clap_on_literals
 passes_five n rest p more =
@@ -87,7 +117,13 @@ passes_five n rest p more =
 
 -- after `--workers`
 abbrev asked : Held → Walk
-asked h = record { held = record { rows = (settled rules h).rows; pending = Some (codes "workers", []); skip = 0 }; waiting = option (codes "workers"); position = 6; is_trailing = false; stopped = None }
+asked h = record {
+  held = record { rows = (settled rules h).rows; pending = Some (codes "workers", []); skip = 0 };
+  waiting = option (codes "workers");
+  position = 6;
+  is_trailing = false;
+  stopped = None;
+}
 
 abbrev told : Held → Text → Held
 told h w = record { rows = (settled rules h).rows; pending = Some (codes "workers", w ∷ []); skip = 0 }
@@ -99,18 +135,23 @@ asks a b c d e = refl
 tells : (h : Held) (w : Text) → IsFileName w → walked rules [] (asked h) w ≡ at 6 (told h w)
 unfolding walked
 tells h [] p = absurd p
-tells h (x ∷ xs) p = ap (λ (met : Held × Step). after_step rules (x ∷ xs) (asked h) met.0 met.1) (plain rules (option (codes "workers")) 6 x xs (asked h).held p)
+tells h (x ∷ xs) p = ap (λ (met : Held × Step). after_step rules (x ∷ xs) (asked h) met.0 met.1)
+    (plain rules (option (codes "workers")) 6 x xs (asked h).held p)
 
 abbrev at_end : DeskLine → Option Text → Held
 at_end n None = five n.names.hotel n.names.stays n.names.forecast n.names.bookings n.names.last
 at_end n (Some w) = told (five n.names.hotel n.names.stays n.names.forecast n.names.bookings n.names.last) w
 
-walk_all : (n : DeskLine) (o : Option Text) → IsPlainLine n → IsPlainOption o → walk rules [] nothing_held (n.names.hotel ∷ n.names.stays ∷ n.names.forecast ∷ n.names.bookings ∷ n.names.last ∷ workers_words o) ≡ at 6 (at_end n o)
+walk_all : (n : DeskLine) (o : Option Text) → IsPlainLine n → IsPlainOption o →
+    walk rules [] nothing_held (n.names.hotel ∷ n.names.stays ∷ n.names.forecast ∷ n.names.bookings ∷ n.names.last ∷ workers_words o) ≡ at 6 (at_end n o)
 unfolding clap_on_literals
-walk_all n None p q = walk_five n.names.hotel n.names.stays n.names.forecast n.names.bookings n.names.last p.names.hotel p.names.stays p.names.forecast p.names.bookings p.names.last
+walk_all n None p q = walk_five n.names.hotel n.names.stays n.names.forecast n.names.bookings n.names.last p.names.hotel p.names.stays p.names.forecast
+    p.names.bookings p.names.last
 walk_all n (Some w) p q =
     let f = five n.names.hotel n.names.stays n.names.forecast n.names.bookings n.names.last in
-    ap (λ (z : Walk). walked rules [] (walked rules [] z (codes "--workers")) w) (walk_five n.names.hotel n.names.stays n.names.forecast n.names.bookings n.names.last p.names.hotel p.names.stays p.names.forecast p.names.bookings p.names.last)
+    ap (λ (z : Walk). walked rules [] (walked rules [] z (codes "--workers")) w)
+    (walk_five n.names.hotel n.names.stays n.names.forecast n.names.bookings n.names.last p.names.hotel p.names.stays p.names.forecast p.names.bookings
+    p.names.last)
     ∙ ap (λ (z : Walk). walked rules [] z w) (asks n.names.hotel n.names.stays n.names.forecast n.names.bookings n.names.last) ∙ tells f w q
 
 pass_last : (h : Held) (w : Text) → IsFileName w → walk_passes top [] (asked h) (w ∷ []) ≡ true
@@ -118,7 +159,8 @@ unfolding walk_passes
 pass_last h [] p = absurd p
 pass_last h (x ∷ xs) p =
     let met = plain rules (option (codes "workers")) 6 x xs (asked h).held p in
-    and_true _ _ (and_true _ _ (word_ok (asked h).held (option (codes "workers")) x xs p) (subst (λ (m : Held × Step). step_passes top 6 m.0 m.1 ≡ true) (sym met) refl)) refl
+    and_true _ _ (and_true _ _ (word_ok (asked h).held (option (codes "workers")) x xs p)
+    (subst (λ (m : Held × Step). step_passes top 6 m.0 m.1 ≡ true) (sym met) refl)) refl
 
 turn_ask : (a b c d e : Text) → turn_passes top [] (at 6 (five a b c d e)) (codes "--workers") ≡ true
 unfolding clap_on_literals
@@ -126,7 +168,8 @@ turn_ask a b c d e = refl
 
 pass_ask : (a b c d e w : Text) → IsFileName w → walk_passes top [] (at 6 (five a b c d e)) (codes "--workers" ∷ w ∷ []) ≡ true
 unfolding walk_passes
-pass_ask a b c d e w p = and_true _ _ (turn_ask a b c d e) (subst (λ (z : Walk). walk_passes top [] z (w ∷ []) ≡ true) (sym (asks a b c d e)) (pass_last (five a b c d e) w p))
+pass_ask a b c d e w p =
+    and_true _ _ (turn_ask a b c d e) (subst (λ (z : Walk). walk_passes top [] z (w ∷ []) ≡ true) (sym (asks a b c d e)) (pass_last (five a b c d e) w p))
 
 pass_none : (w : Walk) → walk_passes top [] w [] ≡ true
 unfolding walk_passes
@@ -135,25 +178,32 @@ pass_none w = refl
 walk_passes_all : (n : DeskLine) (o : Option Text) → IsPlainLine n → IsPlainOption o
     → walk_passes top [] (walk_from nothing_held) (n.names.hotel ∷ n.names.stays ∷ n.names.forecast ∷ n.names.bookings ∷ n.names.last ∷ workers_words o) ≡ true
 walk_passes_all n None p q = passes_five n [] p (pass_none (at 6 (five n.names.hotel n.names.stays n.names.forecast n.names.bookings n.names.last)))
-walk_passes_all n (Some w) p q = passes_five n (codes "--workers" ∷ w ∷ []) p (pass_ask n.names.hotel n.names.stays n.names.forecast n.names.bookings n.names.last w q)
+walk_passes_all n (Some w) p q =
+    passes_five n (codes "--workers" ∷ w ∷ []) p (pass_ask n.names.hotel n.names.stays n.names.forecast n.names.bookings n.names.last w q)
 
-rows_are : (n : DeskLine) (o : Option Text) → Gives (record n { workers = o }) (first_of (codes "hotel") (finished rules (at_end n o))) (first_of (codes "stays") (finished rules (at_end n o))) (first_of (codes "forecast") (finished rules (at_end n o)))
-    (first_of (codes "bookings") (finished rules (at_end n o))) (first_of (codes "script") (finished rules (at_end n o))) (first_of (codes "workers") (finished rules (at_end n o)))
+rows_are : (n : DeskLine) (o : Option Text) →
+    Gives (record n { workers = o }) (first_of (codes "hotel") (finished rules (at_end n o))) (first_of (codes "stays") (finished rules (at_end n o)))
+    (first_of (codes "forecast") (finished rules (at_end n o)))
+    (first_of (codes "bookings") (finished rules (at_end n o))) (first_of (codes "script") (finished rules (at_end n o)))
+    (first_of (codes "workers") (finished rules (at_end n o)))
 unfolding clap_on_literals
 rows_are n None = record { hotel_is = refl; stays_is = refl; forecast_is = refl; bookings_is = refl; script_is = refl; workers_is = refl }
 rows_are n (Some w) = record { hotel_is = refl; stays_is = refl; forecast_is = refl; bookings_is = refl; script_is = refl; workers_is = refl }
 
 abbrev pub GivesRows : DeskLine → List Row → Type 0
-GivesRows n rows = Gives n (first_of (codes "hotel") rows) (first_of (codes "stays") rows) (first_of (codes "forecast") rows) (first_of (codes "bookings") rows) (first_of (codes "script") rows) (first_of (codes "workers") rows)
+GivesRows n rows = Gives n (first_of (codes "hotel") rows) (first_of (codes "stays") rows) (first_of (codes "forecast") rows)
+    (first_of (codes "bookings") rows) (first_of (codes "script") rows) (first_of (codes "workers") rows)
 
 pub reads : (n : DeskLine) → IsPlainLine n → GivesRows n (matches_of desk_app (words_of n))
 reads n p = subst (λ (z : Walk). GivesRows n (finished rules z.held)) (sym (walk_all n n.workers p p.workers)) (rows_are n n.workers)
 
 abbrev Ends : DeskLine → Walk → Type 0
 Ends n z = (entered_passes (built desk_app) z.stopped && (walk_passes top [] (walk_from nothing_held) (words_of n)
-    && (settle_passes rules false z.held && (list_all default_passes rules && is_valid top (finished rules z.held) (is_some (entered (built desk_app) z.stopped)))))) ≡ true
+    && (settle_passes rules false z.held &&
+    (list_all default_passes rules && is_valid top (finished rules z.held) (is_some (entered (built desk_app) z.stopped)))))) ≡ true
 
-ends : (n : DeskLine) (o : Option Text) → (settle_passes rules false (at_end n o) && (list_all default_passes rules && is_valid top (finished rules (at_end n o)) false)) ≡ true
+ends : (n : DeskLine) (o : Option Text) →
+    (settle_passes rules false (at_end n o) && (list_all default_passes rules && is_valid top (finished rules (at_end n o)) false)) ≡ true
 unfolding clap_on_literals
 ends n None = refl
 ends n (Some w) = refl

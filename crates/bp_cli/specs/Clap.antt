@@ -20,7 +20,8 @@ workers_rule = record (new_rule (codes "workers")) { long = Some (codes "workers
 -- five files that have to be there, and the option `--workers`
 abbrev pub desk_app : App
 desk_app =
-    with_rule (with_rule (with_rule (with_rule (with_rule (with_rule named (file (codes "hotel"))) (file (codes "stays"))) (file (codes "forecast"))) (file (codes "bookings"))) (file (codes "script")))
+    with_rule (with_rule (with_rule (with_rule (with_rule (with_rule named (file (codes "hotel"))) (file (codes "stays"))) (file (codes "forecast")))
+    (file (codes "bookings"))) (file (codes "script")))
     workers_rule
 
 -- a word for the number of workers, if there is one, is no option of its own

@@ -15,7 +15,14 @@ use std::alloc::Global;
 
 /// Whether each of the five is a name that a file may have.
 fn are_file_names(hotel: &str, stays: &str, forecast: &str, bookings: &str, last: &str) -> bool
-    ensures { IsTrue result ↔ AreFileNames (record { hotel = hotel.now; stays = stays.now; forecast = forecast.now; bookings = bookings.now; last = last.now }) }
+    ensures { IsTrue result ↔ AreFileNames (record {
+      hotel = hotel.now;
+      stays = stays.now;
+      forecast =
+          forecast.now;
+      bookings = bookings.now;
+      last = last.now;
+    }) }
 {
     is_file_name(hotel)
         && is_file_name(stays)

@@ -1,4 +1,12 @@
 //! The words of a command line, and the task that a plain line of them asks for.
+//!
+//! No words ask for no task.
+//!
+//! ```
+//! let none: [String; 0] = [];
+//! let read = parse(rt.alloc(), &none);
+//! assert!(rt; matches!(read, Err(WordsError::Usage)));
+//! ```
 #![tactic(auto)]
 
 mod desk;

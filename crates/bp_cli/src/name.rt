@@ -30,7 +30,8 @@ pub(crate) fn is_file_name(word: &str) -> bool
 }
 
 impl<'a> Name<'a> {
-    pub(crate) fn new(word: &'a str) -> Name<'a>
+    /// A word as a name. No line asks for a task with a name that no file may have.
+    pub fn new(word: &'a str) -> Name<'a>
         ensures { result ≡ word.now }
     {
         Name { text: word }

@@ -27,7 +27,8 @@ one_command x = by_act x.entry.act refl
 
 mine : (x : Line) (H : History) → length (commands_of (x ∷ H) x.entry.caller) ≡ length (commands_of H x.entry.caller) + cond {A = ℕ} (is_command x) 1 0
 mine x H =
-    let e : calls (x ∷ H) x.entry.caller ≡ x ∷ calls H x.entry.caller = ap (λ (b : Bool). cond b (x ∷ calls H x.entry.caller) (calls H x.entry.caller)) (eq-eqb x.entry.caller x.entry.caller refl) in
+    let e : calls (x ∷ H) x.entry.caller ≡ x ∷ calls H x.entry.caller =
+    ap (λ (b : Bool). cond b (x ∷ calls H x.entry.caller) (calls H x.entry.caller)) (eq-eqb x.entry.caller x.entry.caller refl) in
     let split = ap length (filter_map-append (λ (y : Line). command_of y.entry.act) (x ∷ []) (calls H x.entry.caller)) in
     let n = ap (λ es. length (commands_in es)) e in
     omega (arith, n, split, one_command x, length-append (commands_in (x ∷ [])) (commands_in (calls H x.entry.caller)))
@@ -40,5 +41,6 @@ commands_add_up [] n all = sym (sum_below-zero n)
 commands_add_up (x ∷ H) n all =
     let P : Line → Type 0 = λ y. y.entry.caller < n in
     let rest = commands_add_up H n (All-tail P x H all) in
-    let at = sum_below-at (λ c. length (commands_of (x ∷ H) c)) (λ c. length (commands_of H c)) n x.entry.caller (All-head P x H all) (λ c low ne. others x H c ne) in
+    let at = sum_below-at (λ c. length (commands_of (x ∷ H) c)) (λ c. length (commands_of H c)) n x.entry.caller (All-head P x H all)
+    (λ c low ne. others x H c ne) in
     omega (arith, rest, at, mine x H, sum_by-cons (λ y. cond {A = ℕ} (is_command y) 1 0) x H)

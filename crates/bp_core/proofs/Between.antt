@@ -32,7 +32,8 @@ place_leads h H n house legal within =
     let P : History → Type 0 = λ G. Leads (instance_at h H n) (deltas_at h H n) (instance_of h G) in
     subst P (sym (take-more H n within)) (line_leads h (take n H) (line_at H n) stands)
 
-run_leads : (h : Inn) (H : History) (a d : ℕ) → IsHouse h → IsLegal h H → a + d ≤ length H → Leads (instance_at h H a) (deltas_between h H a (a + d)) (instance_at h H (a + d))
+run_leads : (h : Inn) (H : History) (a d : ℕ) → IsHouse h → IsLegal h H → a + d ≤ length H →
+    Leads (instance_at h H a) (deltas_between h H a (a + d)) (instance_at h H (a + d))
 run_leads h H a zero house legal within =
     let at : a + 0 ≡ a = omega arith in
     let none : a + 0 - a ≡ 0 = omega arith in

@@ -1,5 +1,44 @@
 -- Booking calls of a caller, with one more.
-use Rattle.std.proofs.Common.{◌≡◌, ℕ, zero, suc, ◌+◌, ◌-◌, ◌<◌, ◌≤◌, refl, ap, sym, subst, ◌∙◌, arith, Bool, true, false, not, cond, ◌==◌, ◌&&◌, ◌||◌, IsTrue, List, [], ◌∷◌, ◌++◌, length, filter, count_by, slice_get, Option, Some, None, is_some, length-append, inl, inr}
+use Rattle.std.proofs.Common.{
+  ◌≡◌,
+  ℕ,
+  zero,
+  suc,
+  ◌+◌,
+  ◌-◌,
+  ◌<◌,
+  ◌≤◌,
+  refl,
+  ap,
+  sym,
+  subst,
+  ◌∙◌,
+  arith,
+  Bool,
+  true,
+  false,
+  not,
+  cond,
+  ◌==◌,
+  ◌&&◌,
+  ◌||◌,
+  IsTrue,
+  List,
+  [],
+  ◌∷◌,
+  ◌++◌,
+  length,
+  filter,
+  count_by,
+  slice_get,
+  Option,
+  Some,
+  None,
+  is_some,
+  length-append,
+  inl,
+  inr,
+}
 use Rattle.std.specs.List.{list_any}
 use Rattle.std.proofs.Math.Seq.{take-length}
 use Rattle.std.proofs.lemmas.Bool.{cases_Bool, cases_lt, and_parts, eqb-true, or_cases}
@@ -15,8 +54,20 @@ use Rattle.bp_core.specs.declared.line.Reply.{Reply}
 use Rattle.bp_core.specs.declared.line.Line.{Line}
 use Rattle.bp_core.specs.declared.roll.Booking.{Booking}
 use Rattle.bp_core.specs.Acting.{plain_line}
-use Rattle.bp_core.specs.Lines.{History, is_book_by, is_command, commands, is_cancellation, is_cancel_of, is_cancelled, nth_book, is_accepted, booked_stay, command_of}
-use Rattle.bp_core.specs.Callers.{may_act, has_enrolled, has_left}
+use Rattle.bp_core.specs.Lines.{
+  History,
+  is_book_by,
+  is_command,
+  commands,
+  is_cancellation,
+  is_cancel_of,
+  is_cancelled,
+  nth_book,
+  is_accepted,
+  booked_stay,
+  command_of,
+}
+use Rattle.bp_core.specs.Callers.{greatest_caller, may_act, has_enrolled, has_left}
 use Rattle.bp_core.specs.Answer.{IsReply, cancel_reply, given_up_reply}
 use Rattle.bp_core.specs.Legal.{IsLegal}
 use Rattle.bp_core.specs.Keeping.{AreBookingsOf, fate_by}
@@ -29,14 +80,20 @@ pub act_is_small : (h : Inn) (H : History) (caller : ℕ) → IsLegal h H → Is
 act_is_small h H caller legal may =
     elim (or_cases (caller == 0) (has_enrolled H caller && not (has_left H caller)) may) [
       | inl opener ↦ omega (arith, eqb-true _ _ opener)
-      | inr enrolled ↦ let small : caller ≤ 63 = (counted_at h H legal).numbered caller (and_parts _ _ enrolled).0 in omega (arith, small)
+      | inr enrolled ↦ let small : caller ≤ greatest_caller = (counted_at h H legal).numbered caller (and_parts _ _ enrolled).0 in omega (arith, small)
     ]
 
 -- every booking call is a command
 pub books_are_commands : (H : History) (caller : ℕ) → count_by (is_book_by caller) H ≤ commands H
 books_are_commands [] caller = omega arith
 books_are_commands (x ∷ H) caller =
-    omega (arith, books_are_commands H caller, sum_by-cons (λ y. cond (is_book_by caller y) 1 0) x H, sum_by-cons (λ y. cond (is_command y) 1 0) x H, one_line (x.entry.caller == caller) x.entry.act)
+    omega (
+      arith,
+      books_are_commands H caller,
+      sum_by-cons (λ y. cond (is_book_by caller y) 1 0) x H,
+      sum_by-cons (λ y. cond (is_command y) 1 0) x H,
+      one_line (x.entry.caller == caller) x.entry.act,
+    )
   where
     one_line : (b : Bool) (act : Act) → cond (b && is_some (booked_stay act)) 1 0 ≤ cond (is_some (command_of act)) 1 0
     one_line true (Do (Book stay)) = omega arith
@@ -50,14 +107,16 @@ books_are_commands (x ∷ H) caller =
     one_line true Leave = omega arith
     one_line false act = omega arith
 
-cancelled_is_booked : (H : History) (caller nth : ℕ) (o : Option Line) (again : Bool) → nth_book H caller nth ≡ o → is_cancelled (given_up_reply o again) ≡ true → nth ≤ count_by (is_book_by caller) H
+cancelled_is_booked : (H : History) (caller nth : ℕ) (o : Option Line) (again : Bool) → nth_book H caller nth ≡ o →
+    is_cancelled (given_up_reply o again) ≡ true → nth ≤ count_by (is_book_by caller) H
 cancelled_is_booked H caller nth None again is done = absurd (cc)
 cancelled_is_booked H caller nth (Some y) again is done =
     let within : nth - 1 < length (filter (is_book_by caller) H) = slice_get_within (filter (is_book_by caller) H) (nth - 1) y is in
     omega (arith, within, length-filter (is_book_by caller) H)
 
 -- a line that gives a booking up names one that was made
-gives_up_made : (h : Inn) (H : History) (by : ℕ) (act : Act) (reply : Reply) (caller nth : ℕ) → IsReply h H by act reply → ((by == caller) && (is_cancel_of nth act && is_cancelled reply)) ≡ true → nth ≤ count_by (is_book_by caller) H
+gives_up_made : (h : Inn) (H : History) (by : ℕ) (act : Act) (reply : Reply) (caller nth : ℕ) → IsReply h H by act reply →
+    ((by == caller) && (is_cancel_of nth act && is_cancelled reply)) ≡ true → nth ≤ count_by (is_book_by caller) H
 gives_up_made h H by (Do (Cancel n)) reply caller nth replies gives =
     let parts = and_parts _ _ gives in
     let both = and_parts _ _ parts.1 in
@@ -76,7 +135,8 @@ gives_up_made h H by Enrol reply caller nth replies gives = absurd (let e = sym 
 gives_up_made h H by Leave reply caller nth replies gives = absurd (let e = sym (and_false (by == caller)) ∙ gives in (cc))
 
 -- no booking is given up before it is made
-pub given_up_is_made : (h : Inn) (H : History) → IsLegal h H → (caller nth : ℕ) → list_any (is_cancellation caller nth) H ≡ true → nth ≤ count_by (is_book_by caller) H
+pub given_up_is_made : (h : Inn) (H : History) → IsLegal h H → (caller nth : ℕ) → list_any (is_cancellation caller nth) H ≡ true →
+    nth ≤ count_by (is_book_by caller) H
 given_up_is_made h H legal =
     let P : History → Type 0 = λ G. (caller nth : ℕ) → list_any (is_cancellation caller nth) G ≡ true → nth ≤ count_by (is_book_by caller) G in
     subst P (take-length H) (at_each_position h P (λ caller nth given. absurd (cc)) (λ G x before line. λ caller nth given.
@@ -100,17 +160,22 @@ get_new [] y = refl
 get_new (z ∷ xs) y = get_new xs y
 
 -- the booking calls of a caller, with one more of it
-pub bookings_more : (h : Inn) (H : History) (caller stay : ℕ) (reply : Reply) (bs : List Booking) (b : Booking) → IsLegal h H → AreBookingsOf H caller bs → b.stay ≡ stay → b.fate ≡ fate_by (is_accepted reply) false →
+pub bookings_more : (h : Inn) (H : History) (caller stay : ℕ) (reply : Reply) (bs : List Booking) (b : Booking) → IsLegal h H → AreBookingsOf H caller bs →
+    b.stay ≡ stay → b.fate ≡ fate_by (is_accepted reply) false →
     AreBookingsOf (H ++ plain_line caller (Do (Book stay)) reply ∷ []) caller (bs ++ b ∷ [])
 bookings_more h H caller stay reply bs b legal were stay_is fate_is =
     let x : Line = plain_line caller (Do (Book stay)) reply in
     let books : is_book_by caller x ≡ true = ap (λ t. t && true) (own_number caller) in
-    let lines : filter (is_book_by caller) (H ++ x ∷ []) ≡ filter (is_book_by caller) H ++ x ∷ [] = filter-append (is_book_by caller) H (x ∷ []) ∙ ap (λ l. filter (is_book_by caller) H ++ l) (rw books refl) in
+    let lines : filter (is_book_by caller) (H ++ x ∷ []) ≡ filter (is_book_by caller) H ++ x ∷ [] = filter-append (is_book_by caller) H (x ∷ []) ∙
+    ap (λ l. filter (is_book_by caller) H ++ l) (rw books refl) in
     let size : length (filter (is_book_by caller) H) ≡ length bs = omega (arith, length-filter (is_book_by caller) H, were.as_many) in
     let none : (nth : ℕ) → is_cancellation caller nth x ≡ false = λ nth. and_false (caller == caller) in
-    let same : (nth : ℕ) → list_any (is_cancellation caller nth) (H ++ x ∷ []) ≡ list_any (is_cancellation caller nth) H = λ nth. any-push (is_cancellation caller nth) H x ∙ ap (λ t. list_any (is_cancellation caller nth) H || t) (none nth) ∙ did_old (list_any (is_cancellation caller nth) H) in
+    let same : (nth : ℕ) → list_any (is_cancellation caller nth) (H ++ x ∷ []) ≡ list_any (is_cancellation caller nth) H =
+    λ nth. any-push (is_cancellation caller nth) H x ∙ ap (λ t. list_any (is_cancellation caller nth) H || t) (none nth) ∙
+    did_old (list_any (is_cancellation caller nth) H) in
     record {
-      as_many = (let z = ap (λ (t : Bool). cond {A = ℕ} t 1 0) books in omega (arith, length-append bs (b ∷ []), were.as_many, count-push (is_book_by caller) H x, z));
+      as_many = (let z = ap (λ (t : Bool). cond {A = ℕ} t 1 0) books in
+          omega (arith, length-append bs (b ∷ []), were.as_many, count-push (is_book_by caller) H x, z));
       each = λ k c is. elim (cases_lt k (length bs)) [
         | inl old ↦
             let was = were.each k c (get_old bs b c k old is) in
@@ -132,7 +197,8 @@ bookings_more h H caller stay reply bs b legal were stay_is fate_is =
             ] in
             record {
               line = x;
-              is_nth = ap (λ l. slice_get l (k + 1 - 1)) lines ∙ ap (slice_get (filter (is_book_by caller) H ++ x ∷ [])) place ∙ get_new (filter (is_book_by caller) H) x;
+              is_nth = ap (λ l. slice_get l (k + 1 - 1)) lines ∙ ap (slice_get (filter (is_book_by caller) H ++ x ∷ [])) place ∙
+                  get_new (filter (is_book_by caller) H) x;
               stay = ap {B = Option ℕ} Some (sym stay_is ∙ ap (λ (d : Booking). d.stay) e);
               fate = ap (λ (d : Booking). d.fate) (sym e) ∙ fate_is ∙ ap (fate_by (is_accepted reply)) (sym (same (k + 1) ∙ fresh));
             }

@@ -5,7 +5,19 @@ use Rattle.std.proofs.lemmas.Bool.{and_parts}
 use Rattle.bp_core.specs.declared.line.Reply.{Reply}
 use Rattle.bp_core.specs.declared.line.Reply.TheVariants.{Cancelled, NotBooked, AlreadyCancelled, Done, GroupAccepted}
 use Rattle.bp_core.specs.declared.line.Line.{Line}
-use Rattle.bp_core.specs.Lines.{History, nth_book, booked_stay, is_book, is_book_by, is_by, is_accepted, is_cancelled, is_cancellation, is_done, is_group_accepted}
+use Rattle.bp_core.specs.Lines.{
+  History,
+  nth_book,
+  booked_stay,
+  is_book,
+  is_book_by,
+  is_by,
+  is_accepted,
+  is_cancelled,
+  is_cancellation,
+  is_done,
+  is_group_accepted,
+}
 use Rattle.bp_core.specs.Answer.{cancel_reply, given_up_reply}
 use Rattle.bp_core.specs.Held.{IsHeld}
 use Rattle.bp_core.proofs.Cancelling.{filter_stands}
@@ -19,7 +31,8 @@ gives_up true true h = absurd (cc)
 gives_up true false h = (refl, refl)
 gives_up false again h = absurd (cc)
 
-held_of : (H : History) (caller nth : ℕ) (found : Option Line) → nth_book H caller nth ≡ found → is_cancelled (given_up_reply found (list_any (is_cancellation caller nth) H)) ≡ true → (stay : ℕ) × IsHeld H caller nth stay
+held_of : (H : History) (caller nth : ℕ) (found : Option Line) → nth_book H caller nth ≡ found →
+    is_cancelled (given_up_reply found (list_any (is_cancellation caller nth) H)) ≡ true → (stay : ℕ) × IsHeld H caller nth stay
 held_of H caller nth None is h = absurd (cc)
 held_of H caller nth (Some line) is h =
     let at = filter_stands (is_book_by caller) H (nth - 1) line is in

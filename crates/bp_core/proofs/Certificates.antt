@@ -23,7 +23,8 @@ numbered H number = option_map (λ (b : Posted). b.certificate) (option_and_then
 at_line : (h : Inn) (H : History) (i : ℕ) → IsLegal h H → i < length H → numbered H (published_number (line_at H i).entry) ≡ (line_at H i).certificate
 at_line h H i legal within = by_act (line_at H i).entry.act refl (legal.lines i within).certificate (legal.lines i within).reply
   where
-    by_act : (a : Act) → (line_at H i).entry.act ≡ a → IsCertified h (take i H) (line_at H i).entry.act (line_at H i).certificate → IsReply h (take i H) (line_at H i).entry.caller (line_at H i).entry.act (line_at H i).entry.reply →
+    by_act : (a : Act) → (line_at H i).entry.act ≡ a → IsCertified h (take i H) (line_at H i).entry.act (line_at H i).certificate →
+        IsReply h (take i H) (line_at H i).entry.caller (line_at H i).entry.act (line_at H i).entry.reply →
         numbered H (published_number (line_at H i).entry) ≡ (line_at H i).certificate
     by_act (Publish position) is certified replies =
         let c = subst (λ (a : Act). IsCertified h (take i H) a (line_at H i).certificate) is certified in
@@ -44,7 +45,8 @@ at_line h H i legal within = by_act (line_at H i).entry.act refl (legal.lines i 
         ap (numbered H) e ∙ sym c
 
 -- so the book finds it
-pub found : (h : Inn) (H : History) (place : ℕ) → IsLegal h H → numbered H (option_and_then published_number (option_map (λ (x : Line). x.entry) (slice_get H place))) ≡ certificate_at H place
+pub found : (h : Inn) (H : History) (place : ℕ) → IsLegal h H →
+    numbered H (option_and_then published_number (option_map (λ (x : Line). x.entry) (slice_get H place))) ≡ certificate_at H place
 found h H place legal =
     elim (cases_lt place (length H)) [
       | inl within ↦

@@ -1,5 +1,28 @@
 -- Whatever list of calls that meet their conditions is made, the history is legal.
-use Rattle.std.proofs.Common.{◌≡◌, ℕ, ◌≤◌, refl, sym, subst, ◌∙◌, arith, Bool, true, false, cond, ◌==◌, nat_lt, IsTrue, List, [], ◌∷◌, Option, Some, None, MatchOption}
+use Rattle.std.proofs.Common.{
+  ◌≡◌,
+  ℕ,
+  ◌≤◌,
+  refl,
+  sym,
+  subst,
+  ◌∙◌,
+  arith,
+  Bool,
+  true,
+  false,
+  cond,
+  ◌==◌,
+  nat_lt,
+  IsTrue,
+  List,
+  [],
+  ◌∷◌,
+  Option,
+  Some,
+  None,
+  MatchOption,
+}
 use Rattle.std.specs.Arc.{arc_value}
 use Rattle.std.proofs.lemmas.Bool.{eq-eqb, lt-ltb, ltb-false, leb-false}
 use Rattle.bp_types.specs.declared.command.Command.{Command}
@@ -46,7 +69,8 @@ fresh h H (Resize night rooms) quoted none = refl
 fresh h H (Group span rooms amount) quoted none = refl
 
 -- what is not refused may stand there
-logged_is_legal : (h : Inn) (H : History) (caller : ℕ) (call : Call) (reply : Reply) → IsLegal h H → MayCall (record { house = h; history = H }) caller call → refusal h H call ≡ None → IsReply h H caller (act_of call) reply → IsLegalLine h H (line_of caller call reply)
+logged_is_legal : (h : Inn) (H : History) (caller : ℕ) (call : Call) (reply : Reply) → IsLegal h H → MayCall (record { house = h; history = H }) caller call →
+    refusal h H call ≡ None → IsReply h H caller (act_of call) reply → IsLegalLine h H (line_of caller call reply)
 logged_is_legal h H caller (Do command quoted) reply legal may none replies =
     let parts = not_refused (commands H == h.limits.entries) HistoryFull (command_refusal h H command quoted) none in
     record {
@@ -77,17 +101,25 @@ pub record StaysLegal (h : Inn) (new : Diary) : Type 0 where
   pub house : new.house ≡ h
   pub legal : IsLegal h new.history
 
-pub answered_is_legal : (old new : Diary) (caller : ℕ) (call : Call) (answer : Answer) → IsLegal old.house old.history → MayCall old caller call → IsAnswered old new caller call answer → StaysLegal old.house new
+pub answered_is_legal : (old new : Diary) (caller : ℕ) (call : Call) (answer : Answer) → IsLegal old.house old.history → MayCall old caller call →
+    IsAnswered old new caller call answer → StaysLegal old.house new
 answered_is_legal old new caller call answer legal may is = go (refusal old.house old.history call) refl is
   where
-    go : (o : Option Answer) → refusal old.house old.history call ≡ o → MatchOption o (IsLogged old new caller call answer) (IsRefused old new answer) → StaysLegal old.house new
+    go : (o : Option Answer) → refusal old.house old.history call ≡ o → MatchOption o (IsLogged old new caller call answer) (IsRefused old new answer) →
+        StaysLegal old.house new
     go None none logged =
         let P : Diary → Type 0 = λ b. StaysLegal old.house b in
         let x : Line = line_of caller call logged.reply in
-        subst P (sym logged.adds) (record { house = refl; legal = legal_more old.house old.history x legal (logged_is_legal old.house old.history caller call logged.reply legal may none logged.replies) })
+        subst P (sym logged.adds)
+        (record {
+          house = refl;
+          legal =
+              legal_more old.house old.history x legal (logged_is_legal old.house old.history caller call logged.reply legal may none logged.replies);
+        })
     go (Some refused) some same = let P : Diary → Type 0 = λ b. StaysLegal old.house b in subst P (sym same.1) (record { house = refl; legal = legal })
 
-all_legal : (h : Inn) (old new : Diary) (calls : List Made) (answers : List Answer) → StaysLegal h old → MayMakeAll old calls → AreAnswered old new calls answers → StaysLegal h new
+all_legal : (h : Inn) (old new : Diary) (calls : List Made) (answers : List Answer) → StaysLegal h old → MayMakeAll old calls →
+    AreAnswered old new calls answers → StaysLegal h new
 all_legal h old new [] [] before may is = let P : Diary → Type 0 = λ b. StaysLegal h b in subst P (sym is) before
 all_legal h old new [] (answer ∷ answers) before may is = absurd is
 all_legal h old new (made ∷ calls) [] before may is = absurd is
@@ -99,5 +131,6 @@ all_legal h old new (made ∷ calls) (answer ∷ answers) before may is =
 
 pub every_list_is_legal : EveryListIsLegal
 every_list_is_legal h board calls answers new house at certifies may are =
-    let all = all_legal h (opened_by h board) new calls answers (record { house = refl; legal = opening_history_is_legal h board house at certifies }) may are in
+    let all = all_legal h (opened_by h board) new calls answers (record { house = refl; legal = opening_history_is_legal h board house at certifies })
+    may are in
     record { house = all.house; legal = all.legal; keeps_limits = keeps_limits h new.history house (sound_now h new.history house all.legal) }

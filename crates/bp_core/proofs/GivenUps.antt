@@ -1,5 +1,41 @@
 -- A booking that was given up was made and accepted before.
-use Rattle.std.proofs.Common.{◌≡◌, ℕ, zero, suc, not, ◌+◌, ◌-◌, ◌<◌, ◌≤◌, ◌==◌, Bool, true, false, cond, ◌&&◌, ◌||◌, IsTrue, List, [], ◌∷◌, ◌++◌, length, filter, slice_get, Option, Some, None, refl, sym, ap, subst, ◌∙◌, arith, inl, inr}
+use Rattle.std.proofs.Common.{
+  ◌≡◌,
+  ℕ,
+  zero,
+  suc,
+  not,
+  ◌+◌,
+  ◌-◌,
+  ◌<◌,
+  ◌≤◌,
+  ◌==◌,
+  Bool,
+  true,
+  false,
+  cond,
+  ◌&&◌,
+  ◌||◌,
+  IsTrue,
+  List,
+  [],
+  ◌∷◌,
+  ◌++◌,
+  length,
+  filter,
+  slice_get,
+  Option,
+  Some,
+  None,
+  refl,
+  sym,
+  ap,
+  subst,
+  ◌∙◌,
+  arith,
+  inl,
+  inr,
+}
 use Rattle.std.proofs.Math.Seq.{take-length}
 use Rattle.std.proofs.lemmas.Bool.{cases_Bool, and_parts, eqb-true, leb-true, or_cases}
 use Rattle.std.proofs.lemmas.List.Elements.{filter-append}
@@ -13,7 +49,7 @@ use Rattle.bp_core.specs.declared.line.Line.{Line}
 use Rattle.bp_core.specs.declared.line.Reply.TheVariants.{Cancelled, NotBooked, AlreadyCancelled}
 use Rattle.bp_core.specs.declared.roll.Booking.{Booking}
 use Rattle.bp_core.specs.Answer.{IsReply, cancel_reply, given_up_reply}
-use Rattle.bp_core.specs.Callers.{may_act, may_log, is_enrol_by, has_enrolled, has_left}
+use Rattle.bp_core.specs.Callers.{greatest_caller, may_act, may_log, is_enrol_by, has_enrolled, has_left}
 use Rattle.bp_core.specs.Keeping.{AreBookingsOf, IsBookingOf, fate_by}
 use Rattle.bp_core.specs.Legal.{IsLegal, IsLegalLine, is_in_range}
 use Rattle.bp_core.specs.Lines.{History, is_by, is_book_by, is_accepted, is_cancelled, is_cancel_of, is_cancellation, has_given_up, nth_book}
@@ -45,16 +81,19 @@ stays_accepted H x caller nth was = record {
   from_one = was.from_one;
   known = ap (λ b. (caller == 0) || b) (any-push (is_enrol_by caller) H x) ∙ or_more (caller == 0) (has_enrolled H caller) (is_enrol_by caller x) was.known;
   line = was.line;
-  is_nth = ap (λ l. slice_get l (nth - 1)) (filter-append (is_book_by caller) H (x ∷ [])) ∙ get_in_front (filter (is_book_by caller) H) (filter (is_book_by caller) (x ∷ [])) (nth - 1) was.line was.is_nth;
+  is_nth = ap (λ l. slice_get l (nth - 1)) (filter-append (is_book_by caller) H (x ∷ [])) ∙
+      get_in_front (filter (is_book_by caller) H) (filter (is_book_by caller) (x ∷ [])) (nth - 1) was.line was.is_nth;
   accepted = was.accepted;
 }
 
 -- a Cancel is made of a booking that was accepted
-given_up_accepted : (o : Option Line) (again : Bool) → is_cancelled (given_up_reply o again) ≡ true → (y : Line) × (o ≡ Some y) × (is_accepted y.entry.reply ≡ true)
+given_up_accepted : (o : Option Line) (again : Bool) → is_cancelled (given_up_reply o again) ≡ true →
+    (y : Line) × (o ≡ Some y) × (is_accepted y.entry.reply ≡ true)
 given_up_accepted None again is = absurd (cc)
 given_up_accepted (Some y) again is = go (is_accepted y.entry.reply) refl is
   where
-    go : (b : Bool) → is_accepted y.entry.reply ≡ b → is_cancelled (cond b (cond again AlreadyCancelled Cancelled) NotBooked) ≡ true → (z : Line) × (Some y ≡ Some z) × (is_accepted z.entry.reply ≡ true)
+    go : (b : Bool) → is_accepted y.entry.reply ≡ b → is_cancelled (cond b (cond again AlreadyCancelled Cancelled) NotBooked) ≡ true →
+        (z : Line) × (Some y ≡ Some z) × (is_accepted z.entry.reply ≡ true)
     go true e t = (y, refl, e)
     go false e t = absurd (cc)
 
@@ -69,11 +108,13 @@ given_up_now h H x caller nth legal is =
     let two = and_parts _ _ parts.1 in
     by_act x.entry.act refl two.0 (eqb-true _ _ parts.0) two.1
   where
-    by_act : (a : Act) → x.entry.act ≡ a → is_cancel_of nth x.entry.act ≡ true → x.entry.caller ≡ caller → is_cancelled x.entry.reply ≡ true → WasAccepted H caller nth
+    by_act : (a : Act) → x.entry.act ≡ a → is_cancel_of nth x.entry.act ≡ true → x.entry.caller ≡ caller → is_cancelled x.entry.reply ≡ true →
+        WasAccepted H caller nth
     by_act (Do (Cancel n)) act cancels by done =
         let same : n ≡ nth = eqb-true n nth (subst (λ (a : Act). is_cancel_of nth a ≡ true) act cancels) in
         let at : x.entry.act ≡ Do (Cancel nth) = act ∙ ap (λ k. Do (Cancel k)) same in
-        let reply : x.entry.reply ≡ cancel_reply H caller nth = subst (λ k. x.entry.reply ≡ cancel_reply H k nth) by (subst (λ (a : Act). IsReply h H x.entry.caller a x.entry.reply) at legal.reply) in
+        let reply : x.entry.reply ≡ cancel_reply H caller nth =
+        subst (λ k. x.entry.reply ≡ cancel_reply H k nth) by (subst (λ (a : Act). IsReply h H x.entry.caller a x.entry.reply) at legal.reply) in
         let made = given_up_accepted (nth_book H caller nth) _ (sym (ap is_cancelled reply) ∙ done) in
         let range = subst (λ (a : Act). IsTrue (is_in_range h a)) at legal.range in
         let may : may_act H caller ≡ true = subst (λ k. may_act H k ≡ true) by (subst (λ (a : Act). IsTrue (may_log H x.entry.caller a)) at legal.caller) in
@@ -112,7 +153,7 @@ none_before_one h H caller nth legal zeroth =
     ]
 
 -- nor does a caller past the last one
-pub none_past_callers : (h : Inn) (H : History) (caller nth : ℕ) → IsLegal h H → 63 < caller → false ≡ has_given_up H caller nth
+pub none_past_callers : (h : Inn) (H : History) (caller nth : ℕ) → IsLegal h H → greatest_caller < caller → false ≡ has_given_up H caller nth
 none_past_callers h H caller nth legal past =
     elim (cases_Bool (has_given_up H caller nth)) [
       | inr none ↦ sym none
@@ -134,7 +175,8 @@ past_none (x ∷ xs) zero none = absurd (cc)
 past_none (x ∷ xs) (suc k) none = let le = past_none xs k none in omega (arith, le)
 
 -- what is kept of a booking says whether it was given up
-pub kept_says : (h : Inn) (H : History) (caller nth : ℕ) (bs : List Booking) → IsLegal h H → 1 ≤ nth → AreBookingsOf H caller bs → was_given_up (slice_get bs (nth - 1)) ≡ has_given_up H caller nth
+pub kept_says : (h : Inn) (H : History) (caller nth : ℕ) (bs : List Booking) → IsLegal h H → 1 ≤ nth → AreBookingsOf H caller bs →
+    was_given_up (slice_get bs (nth - 1)) ≡ has_given_up H caller nth
 kept_says h H caller nth bs legal from_one are = go (slice_get bs (nth - 1)) refl
   where
     go : (o : Option Booking) → slice_get bs (nth - 1) ≡ o → was_given_up o ≡ has_given_up H caller nth

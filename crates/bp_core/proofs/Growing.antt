@@ -1,5 +1,41 @@
 -- What a caller knows of a history holds of each longer one that has the same entries of its own.
-use Rattle.std.proofs.Common.{◌≡◌, ℕ, zero, suc, ◌*◌, ◌==◌, ◌≤◌, Bool, true, false, not, ◌&&◌, ◌||◌, cond, [], ◌∷◌, ◌++◌, length, filter, take, drop, count_by, Option, Some, None, MatchOption, refl, sym, ap, ◌∙◌, subst, arith, length-append, append-nil, append_assoc}
+use Rattle.std.proofs.Common.{
+  ◌≡◌,
+  ℕ,
+  zero,
+  suc,
+  ◌*◌,
+  ◌==◌,
+  ◌≤◌,
+  Bool,
+  true,
+  false,
+  not,
+  ◌&&◌,
+  ◌||◌,
+  cond,
+  [],
+  ◌∷◌,
+  ◌++◌,
+  length,
+  filter,
+  take,
+  drop,
+  count_by,
+  Option,
+  Some,
+  None,
+  MatchOption,
+  refl,
+  sym,
+  ap,
+  ◌∙◌,
+  subst,
+  arith,
+  length-append,
+  append-nil,
+  append_assoc,
+}
 use Rattle.std.specs.List.{list_any}
 use Rattle.std.specs.Arc.{arc_value}
 use Rattle.std.proofs.lemmas.List.{take-append-le, take-append-drop}
@@ -20,7 +56,18 @@ use Rattle.bp_core.specs.Changes.{is_change, changes_between}
 use Rattle.bp_core.specs.Instance.{instance_of}
 use Rattle.bp_core.specs.Acting.{Diary, IsLogged, IsRefused, refusal, line_of}
 use Rattle.bp_core.specs.Calls.{Continues}
-use Rattle.bp_core.specs.Staying.{IsPrefix, RightStaysRight, AnsweredContinues, ContinuedIsPrefix, MayLogByOwn, ChangesGrow, NumberNeverFalls, ChangesStay, InstanceStays, InstanceAtStart}
+use Rattle.bp_core.specs.Staying.{
+  IsPrefix,
+  RightStaysRight,
+  AnsweredContinues,
+  ContinuedIsPrefix,
+  MayLogByOwn,
+  ChangesGrow,
+  NumberNeverFalls,
+  ChangesStay,
+  InstanceStays,
+  InstanceAtStart,
+}
 use Rattle.bp_core.proofs.Openings.{instance_at_start}
 use Rattle.bp_core.proofs.Prefixes.{take_take}
 use Rattle.bp_core.proofs.Pushes.{count-push}
@@ -52,7 +99,8 @@ may_log_by_own G H caller act same = by_act act
     left = any_of_caller caller (λ x. is_leave x.entry.act) G H same
 
     entry : has_entry G caller ≡ has_entry H caller
-    entry = any_among (is_by caller) (is_by caller) G (λ x is. is) ∙ (ap (list_any (is_by caller)) same ∙ sym (any_among (is_by caller) (is_by caller) H (λ x is. is)))
+    entry = any_among (is_by caller) (is_by caller) G (λ x is. is) ∙
+        (ap (list_any (is_by caller)) same ∙ sym (any_among (is_by caller) (is_by caller) H (λ x is. is)))
 
     acts : may_act G caller ≡ may_act H caller
     acts = ap (λ b. (caller == 0) || (b && not (has_left G caller))) enrolled ∙ ap (λ b. (caller == 0) || (has_enrolled H caller && not b)) left
@@ -79,8 +127,10 @@ instance_before_lines h H = instance_at_start h
 pub right_stays_right : RightStaysRight
 right_stays_right h G H (Do command None) grows right = tt
 right_stays_right h G H (Do (Group span rooms amount) (Some q)) grows right =
-    let e = instance_stays h G H q.position grows right.0 in
-    ((let le = right.0 in omega (arith, le, prefix_length G H grows)), subst (λ p. IsDisplacement p span (h.limits.unit * rooms) q.displacement) (sym e) right.1)
+    let e = instance_stays h G H q.position grows right.0 in (
+      (let le = right.0 in omega (arith, le, prefix_length G H grows)),
+      subst (λ p. IsDisplacement p span (h.limits.unit * rooms) q.displacement) (sym e) right.1,
+    )
 right_stays_right h G H (Do (Book stay) (Some q)) grows right = absurd right
 right_stays_right h G H (Do (Cancel nth) (Some q)) grows right = absurd right
 right_stays_right h G H (Do (Reforecast stay count) (Some q)) grows right = absurd right
@@ -122,8 +172,11 @@ answered_continues old new caller call answer is = go (refusal old.house old.his
 
 pub continued_is_prefix : ContinuedIsPrefix
 continued_is_prefix old new continues =
-    let begins : take (length old.history) new.history ≡ old.history = (continues.1 (length old.history) (omega arith)).1 ∙ take-length old.history in
-    (drop (length old.history) new.history, sym (take-append-drop (length old.history) new.history) ∙ ap (λ G. G ++ drop (length old.history) new.history) begins)
+    let begins : take (length old.history) new.history ≡ old.history = (continues.1 (length old.history) (omega arith)).1 ∙ take-length old.history in (
+      drop (length old.history) new.history,
+      sym (take-append-drop (length old.history) new.history) ∙
+          ap (λ G. G ++ drop (length old.history) new.history) begins,
+    )
 
 -- with more lines behind no fewer pass a test
 count_on : (p : Line → Bool) (xs rest : History) → count_by p xs ≤ count_by p (xs ++ rest)

@@ -47,9 +47,13 @@ deltas_at-new h H x = rw (take-append_seam H (x ∷ []), line_at-new H x) refl
 pub fed_more : (h : Inn) (H : History) (x : Line) (feed : List (List Change)) → feed ≡ map (deltas_at h H) (numbers (length H)) →
     feed ++ deltas_of h H x ∷ [] ≡ map (deltas_at h (H ++ x ∷ [])) (numbers (length (H ++ x ∷ [])))
 fed_more h H x feed fed =
-    let old : map (deltas_at h H) (numbers (length H)) ≡ map (deltas_at h (H ++ x ∷ [])) (numbers (length H)) = fill_by_all (deltas_at h (H ++ x ∷ [])) (map (deltas_at h H) (numbers (length H))) (length H) [] (length-map-range_with_len (deltas_at h H) 0 (length H)) (λ k g. get_or-map-range_with_len (deltas_at h H) 0 (length H) k k [] g (omega arith) ∙ sym (deltas_at-old h H x k g)) in
+    let old : map (deltas_at h H) (numbers (length H)) ≡ map (deltas_at h (H ++ x ∷ [])) (numbers (length H)) =
+    fill_by_all (deltas_at h (H ++ x ∷ [])) (map (deltas_at h H) (numbers (length H))) (length H) []
+    (length-map-range_with_len (deltas_at h H) 0 (length H)) (λ k g. get_or-map-range_with_len (deltas_at h H) 0 (length H) k k [] g (omega arith) ∙
+    sym (deltas_at-old h H x k g)) in
     let more = map-range_with_len_more (deltas_at h (H ++ x ∷ [])) 0 (length H) (length H) (omega arith) in
-    ap (λ l. l ++ deltas_of h H x ∷ []) (fed ∙ old) ∙ ap (λ d. map (deltas_at h (H ++ x ∷ [])) (numbers (length H)) ++ d ∷ []) (sym (deltas_at-new h H x)) ∙ sym more ∙ ap (λ n. map (deltas_at h (H ++ x ∷ [])) (numbers n)) (sym (length-push H x))
+    ap (λ l. l ++ deltas_of h H x ∷ []) (fed ∙ old) ∙ ap (λ d. map (deltas_at h (H ++ x ∷ [])) (numbers (length H)) ++ d ∷ []) (sym (deltas_at-new h H x)) ∙
+    sym more ∙ ap (λ n. map (deltas_at h (H ++ x ∷ [])) (numbers n)) (sym (length-push H x))
 
 -- the parts that follow a line
 pub record Follows (h : Inn) (H : History) (roll roll' : RollView) (inventory' : Inventory) (forecasts' rates' : List ℕ) (x : Line) : Type 0 where
@@ -62,12 +66,19 @@ pub record Follows (h : Inn) (H : History) (roll roll' : RollView) (inventory' :
   pub forecasts_are : forecasts' ≡ map (forecast_of h (H ++ x ∷ [])) (numbers (length h.stays))
   pub rates_are : rates' ≡ map (rate_of h (H ++ x ∷ [])) (numbers (length h.stays))
 
-pub in_step_more : (h : Inn) (log log' : LogView) (roll roll' : RollView) (inventory inventory' : Inventory) (forecasts forecasts' rates rates' : List ℕ) (x : Line) →
+pub in_step_more : (h : Inn) (log log' : LogView) (roll roll' : RollView) (inventory inventory' : Inventory) (forecasts forecasts' rates rates' : List ℕ)
+    (x : Line) →
     AreInStep h log roll inventory forecasts rates → IsLegalLine h log.lines x →
     log' ≡ record { lines = log.lines ++ x ∷ []; deltas = log.deltas ++ deltas_of h log.lines x ∷ []; line_room = log.line_room; board_room = log.board_room } →
     Follows h log.lines roll roll' inventory' forecasts' rates' x → AreInStep h log' roll' inventory' forecasts' rates'
 in_step_more h log log' roll roll' inventory inventory' forecasts forecasts' rates rates' x kept line logged follows =
-    let after : LogView = record { lines = log.lines ++ x ∷ []; deltas = log.deltas ++ deltas_of h log.lines x ∷ []; line_room = log.line_room; board_room = log.board_room } in
+    let after : LogView = record {
+      lines = log.lines ++ x ∷ [];
+      deltas = log.deltas ++ deltas_of h log.lines x ∷ [];
+      line_room = log.line_room;
+      board_room =
+          log.board_room;
+    } in
     let P : LogView → Type 0 = λ l. AreInStep h l roll' inventory' forecasts' rates' in
     let now : AreInStep h after roll' inventory' forecasts' rates' = record {
       house = kept.house;

@@ -15,7 +15,8 @@ none_between h H a = ap (λ k. flat_map (deltas_at h H) (range_with_len a k)) (l
 join_on : (h : Inn) (H : History) (a b k : ℕ) → a ≤ b → deltas_between h H a b ++ deltas_between h H b (b + k) ≡ deltas_between h H a (b + k)
 join_on h H a b zero le =
     let e : b + 0 ≡ b = omega arith in
-    ap (λ n. deltas_between h H a b ++ deltas_between h H b n) e ∙ ap (λ l. deltas_between h H a b ++ l) (none_between h H b) ∙ append-nil (deltas_between h H a b) ∙ ap (deltas_between h H a) (sym e)
+    ap (λ n. deltas_between h H a b ++ deltas_between h H b n) e ∙ ap (λ l. deltas_between h H a b ++ l) (none_between h H b) ∙
+    append-nil (deltas_between h H a b) ∙ ap (deltas_between h H a) (sym e)
 join_on h H a b (suc k) le =
     let f = deltas_at h H in
     let e : b + suc k ≡ b + k + 1 = omega arith in

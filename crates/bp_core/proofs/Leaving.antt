@@ -30,11 +30,13 @@ cannot_enrol true false here may = absurd (cc)
 cannot_enrol false e here may = absurd (cc)
 
 -- who has left may log nothing
-gone_logs_nothing : (H : History) (caller : ℕ) (act : Act) → (caller == 0) ≡ false → has_entry H caller ≡ true → has_left H caller ≡ true → IsTrue (may_log H caller act) → ⊥
+gone_logs_nothing : (H : History) (caller : ℕ) (act : Act) → (caller == 0) ≡ false → has_entry H caller ≡ true → has_left H caller ≡ true →
+    IsTrue (may_log H caller act) → ⊥
 gone_logs_nothing H caller (Do command) other entry left may = cannot_act (caller == 0) (has_enrolled H caller) (has_left H caller) other left may
 gone_logs_nothing H caller (Publish position) other entry left may = cannot_act (caller == 0) (has_enrolled H caller) (has_left H caller) other left may
 gone_logs_nothing H caller Enrol other entry left may = cannot_enrol _ (has_entry H caller) entry may
-gone_logs_nothing H caller Leave other entry left may = cannot_act (caller == 0) (has_enrolled H caller) (has_left H caller) other left (and_parts (not (caller == 0)) (may_act H caller) may).1
+gone_logs_nothing H caller Leave other entry left may =
+    cannot_act (caller == 0) (has_enrolled H caller) (has_left H caller) other left (and_parts (not (caller == 0)) (may_act H caller) may).1
 
 pub leave_is_last : LeaveIsLast
 leave_is_last h H i j legal before within leaves same =

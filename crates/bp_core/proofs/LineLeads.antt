@@ -1,5 +1,33 @@
 -- Each line of a legal history leads from the instance before it to the one after it.
-use Rattle.std.proofs.Common.{◌≡◌, ℕ, ◌+◌, ◌*◌, ◌-◌, ◌<◌, ◌≤◌, refl, ap, sym, subst, ◌∙◌, arith, Bool, true, false, cond, nat_le, List, [], ◌∷◌, ◌++◌, length, Option, None, inl, inr}
+use Rattle.std.proofs.Common.{
+  ◌≡◌,
+  ℕ,
+  ◌+◌,
+  ◌*◌,
+  ◌-◌,
+  ◌<◌,
+  ◌≤◌,
+  refl,
+  ap,
+  sym,
+  subst,
+  ◌∙◌,
+  arith,
+  Bool,
+  true,
+  false,
+  cond,
+  nat_le,
+  List,
+  [],
+  ◌∷◌,
+  ◌++◌,
+  length,
+  Option,
+  None,
+  inl,
+  inr,
+}
 use Rattle.std.proofs.lemmas.Bool.{cases_Bool, and_parts, cond-false, leb-true, leb-false, ltb-true}
 use Rattle.bp_types.specs.declared.stay.Span.{Span}
 use Rattle.bp_types.specs.declared.change.Change.{Change}
@@ -55,14 +83,16 @@ pub record Stands (h : Inn) (H : History) (x : Line) : Type 0 where
 abbrev pub LineLeads : Inn → History → Line → Type 0
 LineLeads h H x = Leads (instance_of h H) (deltas_of h H x) (instance_of h (H ++ x ∷ []))
 
-leads_by : (h : Inn) (H : History) (x : Line) (changes : List Change) → changes ≡ deltas_of h H x → Leads (instance_of h H) changes (instance_of h (H ++ x ∷ [])) → LineLeads h H x
+leads_by : (h : Inn) (H : History) (x : Line) (changes : List Change) → changes ≡ deltas_of h H x →
+    Leads (instance_of h H) changes (instance_of h (H ++ x ∷ [])) → LineLeads h H x
 leads_by h H x changes is leads =
     let P : List Change → Type 0 = λ l. Leads (instance_of h H) l (instance_of h (H ++ x ∷ [])) in subst P is leads
 
 silent_leads : (h : Inn) (H : History) (x : Line) → is_change x ≡ false → [] ≡ deltas_of h H x → LineLeads h H x
 silent_leads h H x silent none = leads_by h H x [] none (leads_none _ _ (instance_kept h H x silent))
 
-taken_moves : (h : Inn) (H G : History) (span : Span) (k : ℕ) → IsHouse h → IsSound h G → span.from < span.to → span.to ≤ length h.rooms → taken (inventory_of h H) span k ≡ inventory_of h G → first_short (rooms_left_at h H) span k ≡ None → MovesRooms h H G span false k
+taken_moves : (h : Inn) (H G : History) (span : Span) (k : ℕ) → IsHouse h → IsSound h G → span.from < span.to → span.to ≤ length h.rooms →
+    taken (inventory_of h H) span k ≡ inventory_of h G → first_short (rooms_left_at h H) span k ≡ None → MovesRooms h H G span false k
 taken_moves h H G span k house after ordered within is none = record {
   ordered = ordered;
   within = within;
@@ -74,7 +104,8 @@ taken_moves h H G span k house after ordered within is none = record {
 times_one : (u : ℕ) → u * 1 ≡ u
 times_one u = omega arith
 
-book_leads : (h : Inn) (H : History) (caller stay : ℕ) (reply : Reply) → Stands h H (plain_line caller (Do (Book stay)) reply) → LineLeads h H (plain_line caller (Do (Book stay)) reply)
+book_leads : (h : Inn) (H : History) (caller stay : ℕ) (reply : Reply) → Stands h H (plain_line caller (Do (Book stay)) reply) →
+    LineLeads h H (plain_line caller (Do (Book stay)) reply)
 book_leads h H caller stay reply stands =
     let x : Line = plain_line caller (Do (Book stay)) reply in
     let G : History = H ++ x ∷ [] in
@@ -90,14 +121,18 @@ book_leads h H caller stay reply stands =
           let room = accepted_has_room h H stay (sym (ap is_accepted stands.line.reply) ∙ accepted) in
           let moves = taken_moves h H G (span_of h stay) 1 stands.house stands.after spans.0 spans.1 (stock_booked h H caller stay reply accepted) room in
           let demand = demand_leads h H G (instance_of h G).rooms stay value refl within refl small rates others in
-          let both = leads-append _ _ _ (Rooms (span_of h stay) false (h.limits.unit * 1) ∷ []) (Demand stay value ∷ []) (rooms_lead h H G (span_of h stay) false 1 moves) demand in
-          leads_by h H x _ (ap (λ u. Rooms (span_of h stay) false u ∷ Demand stay value ∷ []) (times_one h.limits.unit) ∙ deltas_booked h H caller stay value h.limits.unit (span_of h stay) reply accepted refl refl less) both
+          let both = leads-append _ _ _ (Rooms (span_of h stay) false (h.limits.unit * 1) ∷ []) (Demand stay value ∷ [])
+          (rooms_lead h H G (span_of h stay) false 1 moves) demand in
+          leads_by h H x _ (ap (λ u. Rooms (span_of h stay) false u ∷ Demand stay value ∷ []) (times_one h.limits.unit) ∙
+          deltas_booked h H caller stay value h.limits.unit (span_of h stay) reply accepted refl refl less) both
       | inr refused ↦
           let rooms = rooms_as_before h H G (left_stays h H G (stock_refused h H caller stay reply refused)) in
-          leads_by h H x _ (deltas_refused h H caller stay value reply refused less) (demand_leads h H G (instance_of h H).rooms stay value rooms within refl small rates others)
+          leads_by h H x _ (deltas_refused h H caller stay value reply refused less)
+          (demand_leads h H G (instance_of h H).rooms stay value rooms within refl small rates others)
     ]
 
-given_up_leads : (h : Inn) (H : History) (caller nth : ℕ) → Stands h H (plain_line caller (Do (Cancel nth)) Cancelled) → LineLeads h H (plain_line caller (Do (Cancel nth)) Cancelled)
+given_up_leads : (h : Inn) (H : History) (caller nth : ℕ) → Stands h H (plain_line caller (Do (Cancel nth)) Cancelled) →
+    LineLeads h H (plain_line caller (Do (Cancel nth)) Cancelled)
 given_up_leads h H caller nth stands =
     let x : Line = plain_line caller (Do (Cancel nth)) Cancelled in
     let G : History = H ++ x ∷ [] in
@@ -111,14 +146,17 @@ given_up_leads h H caller nth stands =
     let moves : MovesRooms h H G (span_of h stay) true 1 = record {
       ordered = spans.0;
       within = spans.1;
-      moves = λ n g. left_released h H G (span_of h stay) (stock_released h H caller nth stay from_one held) n g (stands.before.sold n g) (λ inside. stock_has_sold h H caller nth stay n from_one held inside);
+      moves = λ n g. left_released h H G (span_of h stay) (stock_released h H caller nth stay from_one held) n g (stands.before.sold n g)
+          (λ inside. stock_has_sold h H caller nth stay n from_one held inside);
       enough = λ down. absurd (cc);
       small = λ n g. units_stay_small h G n stands.house stands.after g;
     } in
     let stays = stays_as_before h H G (λ j. rate_kept h H x j refl) (λ j. forecast_kept h H x j refl refl) in
-    leads_by h H x _ (ap (λ u. Rooms (span_of h stay) true u ∷ []) (times_one h.limits.unit) ∙ ap (λ s. Rooms s true h.limits.unit ∷ []) (held_span h H caller nth stay held)) (rooms_lead_there h H G (span_of h stay) true 1 moves stays)
+    leads_by h H x _ (ap (λ u. Rooms (span_of h stay) true u ∷ []) (times_one h.limits.unit) ∙
+    ap (λ s. Rooms s true h.limits.unit ∷ []) (held_span h H caller nth stay held)) (rooms_lead_there h H G (span_of h stay) true 1 moves stays)
 
-cancel_leads : (h : Inn) (H : History) (caller nth : ℕ) (reply : Reply) → Stands h H (plain_line caller (Do (Cancel nth)) reply) → LineLeads h H (plain_line caller (Do (Cancel nth)) reply)
+cancel_leads : (h : Inn) (H : History) (caller nth : ℕ) (reply : Reply) → Stands h H (plain_line caller (Do (Cancel nth)) reply) →
+    LineLeads h H (plain_line caller (Do (Cancel nth)) reply)
 cancel_leads h H caller nth reply stands =
     elim (cases_Bool (is_cancelled reply)) [
       | inl cancelled ↦
@@ -127,25 +165,33 @@ cancel_leads h H caller nth reply stands =
       | inr kept ↦ silent_leads h H _ kept (sym (cond-false _ _ _ kept))
     ]
 
-reforecast_leads : (h : Inn) (H : History) (caller stay count : ℕ) → Stands h H (plain_line caller (Do (Reforecast stay count)) Done) → LineLeads h H (plain_line caller (Do (Reforecast stay count)) Done)
+reforecast_leads : (h : Inn) (H : History) (caller stay count : ℕ) → Stands h H (plain_line caller (Do (Reforecast stay count)) Done) →
+    LineLeads h H (plain_line caller (Do (Reforecast stay count)) Done)
 reforecast_leads h H caller stay count stands =
     let x : Line = plain_line caller (Do (Reforecast stay count)) Done in
     let G : History = H ++ x ∷ [] in
     let range = and_parts _ _ stands.line.range in
     let rooms = rooms_as_before h H G (left_stays h H G (quiet_stock h H x (reforecast_is_quiet caller stay count))) in
-    demand_leads h H G (instance_of h H).rooms stay count rooms (ltb-true _ _ range.0) (sym (forecast_set h H caller stay count)) (leb-true _ _ range.1) (λ j. rate_kept h H x j refl) (λ j ne. forecast_kept h H x j (cond-false _ _ _ (other_number stay j ne)) refl)
+    demand_leads h H G (instance_of h H).rooms stay count rooms (ltb-true _ _ range.0) (sym (forecast_set h H caller stay count)) (leb-true _ _ range.1)
+    (λ j. rate_kept h H x j refl) (λ j ne. forecast_kept h H x j (cond-false _ _ _ (other_number stay j ne)) refl)
 
-reprice_leads : (h : Inn) (H : History) (caller stay rate : ℕ) → Stands h H (plain_line caller (Do (Reprice stay rate)) Done) → LineLeads h H (plain_line caller (Do (Reprice stay rate)) Done)
+reprice_leads : (h : Inn) (H : History) (caller stay rate : ℕ) → Stands h H (plain_line caller (Do (Reprice stay rate)) Done) →
+    LineLeads h H (plain_line caller (Do (Reprice stay rate)) Done)
 reprice_leads h H caller stay rate stands =
     let x : Line = plain_line caller (Do (Reprice stay rate)) Done in
     let G : History = H ++ x ∷ [] in
     let range = and_parts _ _ stands.line.range in
     let limits = and_parts _ _ range.1 in
     let rooms = rooms_as_before h H G (left_stays h H G (quiet_stock h H x (reprice_is_quiet caller stay rate))) in
-    rate_leads h H G stay rate rooms (ltb-true _ _ range.0) (sym (rate_set h H caller stay rate)) (leb-true _ _ limits.0, leb-true _ _ limits.1) (λ j ne. rate_kept h H x j (cond-false _ _ _ (other_number stay j ne))) (λ j. forecast_kept h H x j refl refl)
+    rate_leads h H G stay rate rooms (ltb-true _ _ range.0) (sym (rate_set h H caller stay rate)) (
+      leb-true _ _ limits.0,
+      leb-true _ _ limits.1,
+    ) (λ j ne. rate_kept h H x j (cond-false _ _ _ (other_number stay j ne))) (λ j. forecast_kept h H x j refl refl)
 
 -- the rooms of a night moved to a number, up or down
-resize_moves : (h : Inn) (H : History) (caller night new : ℕ) (up : Bool) (k : ℕ) → Stands h H (plain_line caller (Do (Resize night new)) Done) → nat_le (rooms_at h H night) new ≡ up → k ≡ cond up (new - rooms_at h H night) (rooms_at h H night - new) → MovesRooms h H (H ++ plain_line caller (Do (Resize night new)) Done ∷ []) (night_span night) up k
+resize_moves : (h : Inn) (H : History) (caller night new : ℕ) (up : Bool) (k : ℕ) → Stands h H (plain_line caller (Do (Resize night new)) Done) →
+    nat_le (rooms_at h H night) new ≡ up → k ≡ cond up (new - rooms_at h H night) (rooms_at h H night - new) →
+    MovesRooms h H (H ++ plain_line caller (Do (Resize night new)) Done ∷ []) (night_span night) up k
 resize_moves h H caller night new up k stands at is =
     let G : History = H ++ plain_line caller (Do (Resize night new)) Done ∷ [] in
     let within : night < length h.rooms = ltb-true _ _ (and_parts _ _ stands.line.range).0 in
@@ -154,7 +200,8 @@ resize_moves h H caller night new up k stands at is =
     record {
       ordered = omega arith;
       within = omega (arith, within);
-      moves = left_resized h H G night new up k within (stock_resized h H caller night new within) below above (moves up k (rooms_at h H night) at is) (λ down. small up k (rooms_at h H night) down is);
+      moves = left_resized h H G night new up k within (stock_resized h H caller night new within) below above (moves up k (rooms_at h H night) at is)
+          (λ down. small up k (rooms_at h H night) down is);
       enough = λ down n from to.
           let here : n ≡ night = omega arith in
           let left : rooms_left_at h H n ≡ rooms_left_at h H night = ap (rooms_left_at h H) here in
@@ -174,7 +221,8 @@ resize_moves h H caller night new up k stands at is =
     enough true k old sold down is above = absurd (cc)
     enough false k old sold down is above = omega (arith, is, above)
 
-resized_leads : (h : Inn) (H : History) (caller night new : ℕ) → Stands h H (plain_line caller (Do (Resize night new)) Done) → LineLeads h H (plain_line caller (Do (Resize night new)) Done)
+resized_leads : (h : Inn) (H : History) (caller night new : ℕ) → Stands h H (plain_line caller (Do (Resize night new)) Done) →
+    LineLeads h H (plain_line caller (Do (Resize night new)) Done)
 resized_leads h H caller night new stands =
     let x : Line = plain_line caller (Do (Resize night new)) Done in
     let G : History = H ++ x ∷ [] in
@@ -183,39 +231,48 @@ resized_leads h H caller night new stands =
     let stays = stays_as_before h H G (λ j. rate_kept h H x j refl) (λ j. forecast_kept h H x j refl refl) in
     rooms_lead_there h H G (night_span night) up k (resize_moves h H caller night new up k stands refl refl) stays
 
-resize_leads : (h : Inn) (H : History) (caller night new : ℕ) (reply : Reply) → Stands h H (plain_line caller (Do (Resize night new)) reply) → LineLeads h H (plain_line caller (Do (Resize night new)) reply)
+resize_leads : (h : Inn) (H : History) (caller night new : ℕ) (reply : Reply) → Stands h H (plain_line caller (Do (Resize night new)) reply) →
+    LineLeads h H (plain_line caller (Do (Resize night new)) reply)
 resize_leads h H caller night new reply stands =
     elim (cases_Bool (is_done reply)) [
       | inl done ↦
-          let P : Reply → Type 0 = λ r. Stands h H (plain_line caller (Do (Resize night new)) r) → LineLeads h H (plain_line caller (Do (Resize night new)) r) in
+          let P : Reply → Type 0 = λ r. Stands h H (plain_line caller (Do (Resize night new)) r) →
+          LineLeads h H (plain_line caller (Do (Resize night new)) r) in
           subst P (sym (done_is reply done)) (resized_leads h H caller night new) stands
       | inr undone ↦ silent_leads h H _ undone (sym (cond-false _ _ _ undone))
     ]
 
-booked_group_leads : (h : Inn) (H : History) (caller rooms amount displacement : ℕ) (span : Span) → Stands h H (plain_line caller (Do (Group span rooms amount)) (GroupAccepted displacement)) → LineLeads h H (plain_line caller (Do (Group span rooms amount)) (GroupAccepted displacement))
+booked_group_leads : (h : Inn) (H : History) (caller rooms amount displacement : ℕ) (span : Span) →
+    Stands h H (plain_line caller (Do (Group span rooms amount)) (GroupAccepted displacement)) →
+    LineLeads h H (plain_line caller (Do (Group span rooms amount)) (GroupAccepted displacement))
 booked_group_leads h H caller rooms amount displacement span stands =
     let x : Line = plain_line caller (Do (Group span rooms amount)) (GroupAccepted displacement) in
     let G : History = H ++ x ∷ [] in
     let parts = and_parts _ _ (and_parts _ _ stands.line.range).0 in
     let room = accepted_group_has_rooms h H span rooms amount (GroupAccepted displacement) stands.line.reply refl in
-    let moves = taken_moves h H G span rooms stands.house stands.after (ltb-true _ _ parts.0) (leb-true _ _ parts.1) (stock_grouped h H caller rooms amount displacement span) room in
+    let moves = taken_moves h H G span rooms stands.house stands.after (ltb-true _ _ parts.0) (leb-true _ _ parts.1)
+    (stock_grouped h H caller rooms amount displacement span) room in
     rooms_lead_there h H G span false rooms moves (stays_as_before h H G (λ j. rate_kept h H x j refl) (λ j. forecast_kept h H x j refl refl))
 
-group_leads : (h : Inn) (H : History) (caller rooms amount : ℕ) (span : Span) (reply : Reply) → Stands h H (plain_line caller (Do (Group span rooms amount)) reply) → LineLeads h H (plain_line caller (Do (Group span rooms amount)) reply)
+group_leads : (h : Inn) (H : History) (caller rooms amount : ℕ) (span : Span) (reply : Reply) →
+    Stands h H (plain_line caller (Do (Group span rooms amount)) reply) → LineLeads h H (plain_line caller (Do (Group span rooms amount)) reply)
 group_leads h H caller rooms amount span reply stands =
     elim (cases_Bool (is_group_accepted reply)) [
       | inl accepted ↦
-          let P : Reply → Type 0 = λ r. Stands h H (plain_line caller (Do (Group span rooms amount)) r) → LineLeads h H (plain_line caller (Do (Group span rooms amount)) r) in
+          let P : Reply → Type 0 = λ r. Stands h H (plain_line caller (Do (Group span rooms amount)) r) →
+          LineLeads h H (plain_line caller (Do (Group span rooms amount)) r) in
           let is = accepted_group_is reply accepted in
           subst P (sym is.1) (booked_group_leads h H caller rooms amount is.0 span) stands
       | inr refused ↦ silent_leads h H _ refused (sym (cond-false _ _ _ refused))
     ]
 
-command_leads : (h : Inn) (H : History) (caller : ℕ) (command : Command) (reply : Reply) → Stands h H (plain_line caller (Do command) reply) → LineLeads h H (plain_line caller (Do command) reply)
+command_leads : (h : Inn) (H : History) (caller : ℕ) (command : Command) (reply : Reply) → Stands h H (plain_line caller (Do command) reply) →
+    LineLeads h H (plain_line caller (Do command) reply)
 command_leads h H caller (Book stay) reply stands = book_leads h H caller stay reply stands
 command_leads h H caller (Cancel nth) reply stands = cancel_leads h H caller nth reply stands
 command_leads h H caller (Reforecast stay count) reply stands =
-    let P : Reply → Type 0 = λ r. Stands h H (plain_line caller (Do (Reforecast stay count)) r) → LineLeads h H (plain_line caller (Do (Reforecast stay count)) r) in
+    let P : Reply → Type 0 = λ r. Stands h H (plain_line caller (Do (Reforecast stay count)) r) →
+    LineLeads h H (plain_line caller (Do (Reforecast stay count)) r) in
     subst P (sym stands.line.reply) (reforecast_leads h H caller stay count) stands
 command_leads h H caller (Reprice stay rate) reply stands =
     let P : Reply → Type 0 = λ r. Stands h H (plain_line caller (Do (Reprice stay rate)) r) → LineLeads h H (plain_line caller (Do (Reprice stay rate)) r) in
@@ -223,9 +280,12 @@ command_leads h H caller (Reprice stay rate) reply stands =
 command_leads h H caller (Resize night rooms) reply stands = resize_leads h H caller night rooms reply stands
 command_leads h H caller (Group span rooms amount) reply stands = group_leads h H caller rooms amount span reply stands
 
-act_leads : (h : Inn) (H : History) (caller : ℕ) (act : Act) (reply : Reply) (certificate : Option Claim) → Stands h H (record { entry = record { caller = caller; act = act; reply = reply }; certificate = certificate }) → LineLeads h H (record { entry = record { caller = caller; act = act; reply = reply }; certificate = certificate })
+act_leads : (h : Inn) (H : History) (caller : ℕ) (act : Act) (reply : Reply) (certificate : Option Claim) →
+    Stands h H (record { entry = record { caller = caller; act = act; reply = reply }; certificate = certificate }) →
+    LineLeads h H (record { entry = record { caller = caller; act = act; reply = reply }; certificate = certificate })
 act_leads h H caller (Do command) reply certificate stands =
-    let P : Option Claim → Type 0 = λ c. Stands h H (record { entry = record { caller = caller; act = Do command; reply = reply }; certificate = c }) → LineLeads h H (record { entry = record { caller = caller; act = Do command; reply = reply }; certificate = c }) in
+    let P : Option Claim → Type 0 = λ c. Stands h H (record { entry = record { caller = caller; act = Do command; reply = reply }; certificate = c }) →
+    LineLeads h H (record { entry = record { caller = caller; act = Do command; reply = reply }; certificate = c }) in
     subst P (sym stands.line.certificate) (command_leads h H caller command reply) stands
 act_leads h H caller (Publish position) reply certificate stands = silent_leads h H _ refl refl
 act_leads h H caller Enrol reply certificate stands = silent_leads h H _ refl refl

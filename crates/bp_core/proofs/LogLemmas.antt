@@ -1,5 +1,42 @@
 -- Lines of entries and boards, with one entry more.
-use Rattle.std.proofs.Common.{◌≡◌, ℕ, zero, suc, ◌+◌, ◌≤◌, refl, ap, sym, ◌∙◌, subst, arith, Bool, true, false, cond, List, [], ◌∷◌, ◌++◌, length, map, take, drop, get_or, count_by, slice_get, Option, Some, None, is_some, unwrap_or, inl, inr, length-append, append-nil}
+use Rattle.std.proofs.Common.{
+  ◌≡◌,
+  ℕ,
+  zero,
+  suc,
+  ◌+◌,
+  ◌≤◌,
+  refl,
+  ap,
+  sym,
+  ◌∙◌,
+  subst,
+  arith,
+  Bool,
+  true,
+  false,
+  cond,
+  List,
+  [],
+  ◌∷◌,
+  ◌++◌,
+  length,
+  map,
+  take,
+  drop,
+  get_or,
+  count_by,
+  slice_get,
+  Option,
+  Some,
+  None,
+  is_some,
+  unwrap_or,
+  inl,
+  inr,
+  length-append,
+  append-nil,
+}
 use Rattle.std.specs.List.{range_with_len, filter_map, cons_option}
 use Rattle.std.specs.Option.{option_map, option_to_list}
 use Rattle.std.proofs.Math.ListN.{get_or-append}
@@ -57,7 +94,8 @@ lines_of-push_board (y ∷ es) (c ∷ cs) e b here as_many =
 pub vectors-lines_of : (es : List Entry) (bs : List Posted) → vectors (lines_of es bs) ≡ count_by publishes es
 vectors-lines_of [] bs = refl
 vectors-lines_of (e ∷ es) bs =
-    sum_by-cons (λ x. cond (is_publish x) 1 0) (line_with e bs) (lines_of es (boards_after e bs)) ∙ ap (λ n. cond (publishes e) 1 0 + n) (vectors-lines_of es (boards_after e bs)) ∙ sym (sum_by-cons (λ x. cond (publishes x) 1 0) e es)
+    sum_by-cons (λ x. cond (is_publish x) 1 0) (line_with e bs) (lines_of es (boards_after e bs)) ∙
+    ap (λ n. cond (publishes e) 1 0 + n) (vectors-lines_of es (boards_after e bs)) ∙ sym (sum_by-cons (λ x. cond (publishes x) 1 0) e es)
 
 pub entries-lines_of : (es : List Entry) (bs : List Posted) (k : ℕ) → option_map (λ (x : Line). x.entry) (slice_get (lines_of es bs) k) ≡ slice_get es k
 entries-lines_of [] bs k = refl
@@ -71,17 +109,20 @@ changes_between-in H a b h =
     sym (sum_by-append (λ x. cond (is_change x) 1 0) (take a H) (drop a (take b H))) ∙ ap (count_by is_change) whole
 
 -- the counts of changes, with one line more
-pub counts_more : (H : History) (x : Line) (counts : List ℕ) (c : ℕ) → counts ≡ map (changes_in H) (range_with_len 0 (length H + 1)) → c ≡ changes_in H (length H) + cond (is_change x) 1 0 →
+pub counts_more : (H : History) (x : Line) (counts : List ℕ) (c : ℕ) → counts ≡ map (changes_in H) (range_with_len 0 (length H + 1)) →
+    c ≡ changes_in H (length H) + cond (is_change x) 1 0 →
     counts ++ c ∷ [] ≡ map (changes_in (H ++ x ∷ [])) (range_with_len 0 (length (H ++ x ∷ []) + 1))
 counts_more H x counts c counted is =
     let each : length counts ≡ length H + 1 = ap (λ (l : List ℕ). length l) counted ∙ length-map-range_with_len (changes_in H) 0 (length H + 1) in
     let all : length (counts ++ c ∷ []) ≡ length (H ++ x ∷ []) + 1 = omega (arith, each, length-append counts (c ∷ []), length-push H x) in
-    let now : c ≡ changes_in (H ++ x ∷ []) (length H + 1) = is ∙ ap (λ G. count_by is_change G + cond (is_change x) 1 0) (take-length H) ∙ sym (count-push is_change H x) ∙ ap (count_by is_change) (sym (ap (λ n. take n (H ++ x ∷ [])) (sym (length-push H x)) ∙ take-length (H ++ x ∷ []))) in
+    let now : c ≡ changes_in (H ++ x ∷ []) (length H + 1) = is ∙ ap (λ G. count_by is_change G + cond (is_change x) 1 0) (take-length H) ∙
+    sym (count-push is_change H x) ∙ ap (count_by is_change) (sym (ap (λ n. take n (H ++ x ∷ [])) (sym (length-push H x)) ∙ take-length (H ++ x ∷ []))) in
     fill_by_all (changes_in (H ++ x ∷ [])) (counts ++ c ∷ []) (length (H ++ x ∷ []) + 1) 0 all (λ k h.
     elim (cases_lt k (length H + 1)) [
       | inl old ↦
           let first : get_or (counts ++ c ∷ []) k 0 ≡ get_or counts k 0 = get_or-append counts (c ∷ []) 0 k (omega arith) in
-          let was : get_or counts k 0 ≡ changes_in H k = ap (λ l. get_or l k 0) counted ∙ get_or-map-range_with_len (changes_in H) 0 (length H + 1) k k 0 old (omega arith) in
+          let was : get_or counts k 0 ≡ changes_in H k = ap (λ l. get_or l k 0) counted ∙
+          get_or-map-range_with_len (changes_in H) 0 (length H + 1) k k 0 old (omega arith) in
           first ∙ was ∙ ap (count_by is_change) (sym (take-append-le k H (x ∷ []) (omega arith)))
       | inr new ↦
           let last : k ≡ length H + 1 = omega (arith, length-push H x) in
@@ -97,7 +138,14 @@ log_more H x bs bs' feed d counts c number number' log boards_are shape changes 
     let more : boards (H ++ x ∷ []) ≡ boards H ++ filter_map posted (x ∷ []) = filter_map-append posted H (x ∷ []) in
     record {
       each_posted = boards_are ∙ ap (λ l. l ++ option_to_list (posted x)) log.each_posted ∙ ap (λ l. boards H ++ l) (sym (one_posted (posted x))) ∙ sym more;
-      as_many = omega (arith, ap (λ (l : List Posted). length l) boards_are, length-append bs (option_to_list (posted x)), log.as_many, shape, count-push is_publish H x);
+      as_many = omega (
+        arith,
+        ap (λ (l : List Posted). length l) boards_are,
+        length-append bs (option_to_list (posted x)),
+        log.as_many,
+        shape,
+        count-push is_publish H x,
+      );
       fed = omega (arith, log.fed, length-append feed (d ∷ []), length-push H x);
       counted = counts_more H x counts c log.counted changes;
       numbered = number_is ∙ ap (λ n. n + cond (is_command x) 1 0) log.numbered ∙ sym (count-push is_command H x);
@@ -107,11 +155,13 @@ log_more H x bs bs' feed d counts c number number' log boards_are shape changes 
     one_posted None = refl
     one_posted (Some b) = refl
 
-pub counts-length : (H : History) (bs : List Posted) (feed : List (List Change)) (counts : List ℕ) (number : ℕ) → IsLog H bs feed counts number → length counts ≡ length H + 1
+pub counts-length : (H : History) (bs : List Posted) (feed : List (List Change)) (counts : List ℕ) (number : ℕ) → IsLog H bs feed counts number →
+    length counts ≡ length H + 1
 counts-length H bs feed counts number log = ap (λ (l : List ℕ). length l) log.counted ∙ length-map-range_with_len (changes_in H) 0 (length H + 1)
 
 -- a count that was read
-pub count_read : (H : History) (bs : List Posted) (feed : List (List Change)) (counts : List ℕ) (number n read : ℕ) → IsLog H bs feed counts number → n ≤ length H → read ≡ get_or counts n read → read ≡ changes_in H n
+pub count_read : (H : History) (bs : List Posted) (feed : List (List Change)) (counts : List ℕ) (number n read : ℕ) → IsLog H bs feed counts number →
+    n ≤ length H → read ≡ get_or counts n read → read ≡ changes_in H n
 count_read H bs feed counts number n read log within is =
     is ∙ ap (λ l. get_or l n read) log.counted ∙ get_or-map-range_with_len (changes_in H) 0 (length H + 1) n n read (omega arith) (omega arith)
 
@@ -121,17 +171,21 @@ changes_in-le H n = omega (arith, count_by-le-length is_change (take n H), lengt
 -- the parts of a log, with an entry more that does not publish
 pub log_more_plain : (es : List Entry) (e : Entry) (bs : List Posted) (feed : List (List Change)) (d : List Change) (counts : List ℕ) (c number number' : ℕ) →
     published_position e.act ≡ None → IsLog (lines_of es bs) bs feed counts number →
-    c ≡ changes_in (lines_of es bs) (length es) + cond (is_change (record { entry = e; certificate = None })) 1 0 → number' ≡ number + cond (is_command (record { entry = e; certificate = None })) 1 0 →
+    c ≡ changes_in (lines_of es bs) (length es) + cond (is_change (record { entry = e; certificate = None })) 1 0 →
+    number' ≡ number + cond (is_command (record { entry = e; certificate = None })) 1 0 →
     IsLog (lines_of (es ++ e ∷ []) bs) bs (feed ++ d ∷ []) (counts ++ c ∷ []) number'
 log_more_plain es e bs feed d counts c number number' plain log changes number_is =
     let x : Line = record { entry = e; certificate = None } in
     let P : History → Type 0 = λ H. IsLog H bs (feed ++ d ∷ []) (counts ++ c ∷ []) number' in
     let silent : publishes e ≡ false = ap (λ (o : Option ℕ). is_some o) plain in
-    let as_lines : c ≡ changes_in (lines_of es bs) (length (lines_of es bs)) + cond (is_change x) 1 0 = changes ∙ ap (λ n. changes_in (lines_of es bs) n + cond (is_change x) 1 0) (sym (length-lines_of es bs)) in
-    subst P (sym (lines_of-push_plain es bs e silent)) (log_more (lines_of es bs) x bs bs feed d counts c number number' log (sym (append-nil bs)) (ap (λ t. cond t 1 0) silent) as_lines number_is)
+    let as_lines : c ≡ changes_in (lines_of es bs) (length (lines_of es bs)) + cond (is_change x) 1 0 = changes ∙
+    ap (λ n. changes_in (lines_of es bs) n + cond (is_change x) 1 0) (sym (length-lines_of es bs)) in
+    subst P (sym (lines_of-push_plain es bs e silent))
+    (log_more (lines_of es bs) x bs bs feed d counts c number number' log (sym (append-nil bs)) (ap (λ t. cond t 1 0) silent) as_lines number_is)
 
 -- and with one that publishes a board
-pub log_more_board : (es : List Entry) (e : Entry) (bs : List Posted) (b : Posted) (feed : List (List Change)) (d : List Change) (counts : List ℕ) (c number : ℕ) →
+pub log_more_board : (es : List Entry) (e : Entry) (bs : List Posted) (b : Posted) (feed : List (List Change)) (d : List Change) (counts : List ℕ)
+    (c number : ℕ) →
     published_position e.act ≡ Some b.position → act_changes e.act e.reply ≡ false → command_of e.act ≡ None → IsLog (lines_of es bs) bs feed counts number →
     c ≡ changes_in (lines_of es bs) (length es) →
     IsLog (lines_of (es ++ e ∷ []) (bs ++ b ∷ [])) (bs ++ b ∷ []) (feed ++ d ∷ []) (counts ++ c ∷ []) number
@@ -141,8 +195,11 @@ log_more_board es e bs b feed d counts c number at still silent log changes =
     let here : publishes e ≡ true = ap (λ (o : Option ℕ). is_some o) at in
     let as_many = log.as_many ∙ vectors-lines_of es bs in
     let none : cond (is_change x) 1 0 ≡ 0 = ap (λ (t : Bool). cond {A = ℕ} t 1 0) still in
-    let as_lines : c ≡ changes_in (lines_of es bs) (length (lines_of es bs)) + cond (is_change x) 1 0 = omega (arith, changes, none, ap (changes_in (lines_of es bs)) (length-lines_of es bs)) in
+    let as_lines : c ≡ changes_in (lines_of es bs) (length (lines_of es bs)) + cond (is_change x) 1 0 =
+    omega (arith, changes, none, ap (changes_in (lines_of es bs)) (length-lines_of es bs)) in
     let uncounted : cond (is_command x) 1 0 ≡ 0 = ap (λ (o : Option Command). cond {A = ℕ} (is_some o) 1 0) silent in
     let same : number ≡ number + cond (is_command x) 1 0 = omega (arith, uncounted) in
-    let board : bs ++ b ∷ [] ≡ bs ++ option_to_list (posted x) = ap (λ (o : Option ℕ). bs ++ record { position = unwrap_or o 0; certificate = b.certificate } ∷ []) (sym at) in
-    subst P (sym (lines_of-push_board es bs e b here as_many)) (log_more (lines_of es bs) x bs (bs ++ b ∷ []) feed d counts c number number log board (ap (λ t. cond t 1 0) here) as_lines same)
+    let board : bs ++ b ∷ [] ≡ bs ++ option_to_list (posted x) =
+    ap (λ (o : Option ℕ). bs ++ record { position = unwrap_or o 0; certificate = b.certificate } ∷ []) (sym at) in
+    subst P (sym (lines_of-push_board es bs e b here as_many))
+    (log_more (lines_of es bs) x bs (bs ++ b ∷ []) feed d counts c number number log board (ap (λ t. cond t 1 0) here) as_lines same)

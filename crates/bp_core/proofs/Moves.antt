@@ -1,5 +1,27 @@
 -- The rooms left as a line moves the stock.
-use Rattle.std.proofs.Common.{◌≡◌, ℕ, ◌+◌, ◌-◌, ◌<◌, ◌≤◌, refl, ap, sym, ◌∙◌, arith, Bool, true, false, cond, length, slice_index, get_or-set_same, get_or-set_other, inl, inr}
+use Rattle.std.proofs.Common.{
+  ◌≡◌,
+  ℕ,
+  ◌+◌,
+  ◌-◌,
+  ◌<◌,
+  ◌≤◌,
+  refl,
+  ap,
+  sym,
+  ◌∙◌,
+  arith,
+  Bool,
+  true,
+  false,
+  cond,
+  length,
+  slice_index,
+  get_or-set_same,
+  get_or-set_other,
+  inl,
+  inr,
+}
 use Rattle.std.proofs.lemmas.Bool.{cases_eq, cases_lt, cond-true, cond-false}
 use Rattle.std.proofs.lemmas.List.FromFn.{length-map-range_with_len}
 use Rattle.bp_types.specs.declared.stay.Span.{Span}
@@ -22,7 +44,8 @@ sold_read : (h : Inn) (H G : History) (v : Inventory) → v ≡ inventory_of h G
 sold_read h H G v is n g = sym (sold_of_stock h G n g) ∙ ap (λ (w : Inventory). slice_index w.sold n) (sym is)
 
 -- sold rooms that move on a span
-sold_there : (h : Inn) (H : History) (span : Span) (up : Bool) (k n : ℕ) → n < length h.rooms → slice_index (rooms_moved (inventory_of h H).sold span up k) n ≡ cond (covers span n) (moved (sold_at h H n) up k) (sold_at h H n)
+sold_there : (h : Inn) (H : History) (span : Span) (up : Bool) (k n : ℕ) → n < length h.rooms →
+    slice_index (rooms_moved (inventory_of h H).sold span up k) n ≡ cond (covers span n) (moved (sold_at h H n) up k) (sold_at h H n)
 sold_there h H span up k n g =
     let sold = (inventory_of h H).sold in
     let each : length sold ≡ length h.rooms = length-map-range_with_len (sold_at h H) 0 (length h.rooms) in
@@ -36,7 +59,8 @@ left_stays h H G is n g =
     ap (λ r. r - sold_at h G n) rooms ∙ ap (λ s. rooms_at h H n - s) sold
 
 -- rooms taken are left no more
-pub left_taken : (h : Inn) (H G : History) (span : Span) (k : ℕ) → taken (inventory_of h H) span k ≡ inventory_of h G → (n : ℕ) → n < length h.rooms → rooms_left_at h G n ≡ cond (covers span n) (rooms_left_at h H n - k) (rooms_left_at h H n)
+pub left_taken : (h : Inn) (H G : History) (span : Span) (k : ℕ) → taken (inventory_of h H) span k ≡ inventory_of h G → (n : ℕ) → n < length h.rooms →
+    rooms_left_at h G n ≡ cond (covers span n) (rooms_left_at h H n - k) (rooms_left_at h H n)
 left_taken h H G span k is n g =
     let rooms = rooms_read h H G (taken (inventory_of h H) span k) is n g ∙ rooms_of_stock h H n g in
     let sold = sold_read h H G (taken (inventory_of h H) span k) is n g ∙ sold_there h H span true k n g in
@@ -47,7 +71,8 @@ left_taken h H G span k is n g =
     fewer r s false = refl
 
 -- rooms given up are left again
-pub left_released : (h : Inn) (H G : History) (span : Span) → released (inventory_of h H) span 1 ≡ inventory_of h G → (n : ℕ) → n < length h.rooms → sold_at h H n ≤ rooms_at h H n → (covers span n ≡ true → 1 ≤ sold_at h H n) →
+pub left_released : (h : Inn) (H G : History) (span : Span) → released (inventory_of h H) span 1 ≡ inventory_of h G → (n : ℕ) → n < length h.rooms →
+    sold_at h H n ≤ rooms_at h H n → (covers span n ≡ true → 1 ≤ sold_at h H n) →
     rooms_left_at h G n ≡ cond (covers span n) (rooms_left_at h H n + 1) (rooms_left_at h H n)
 left_released h H G span is n g below some =
     let rooms = rooms_read h H G (released (inventory_of h H) span 1) is n g ∙ rooms_of_stock h H n g in
@@ -66,7 +91,9 @@ night_alone night n other =
     ]
 
 -- rooms of a night set, up or down
-pub left_resized : (h : Inn) (H G : History) (night new : ℕ) (up : Bool) (k : ℕ) → night < length h.rooms → resized (inventory_of h H) night new ≡ inventory_of h G → sold_at h H night ≤ rooms_at h H night → sold_at h H night ≤ new → new ≡ moved (rooms_at h H night) up k → (up ≡ false → k ≤ rooms_at h H night) →
+pub left_resized : (h : Inn) (H G : History) (night new : ℕ) (up : Bool) (k : ℕ) → night < length h.rooms →
+    resized (inventory_of h H) night new ≡ inventory_of h G → sold_at h H night ≤ rooms_at h H night → sold_at h H night ≤ new →
+    new ≡ moved (rooms_at h H night) up k → (up ≡ false → k ≤ rooms_at h H night) →
     (n : ℕ) → n < length h.rooms → rooms_left_at h G n ≡ cond (covers (night_span night) n) (moved (rooms_left_at h H n) up k) (rooms_left_at h H n)
 left_resized h H G night new up k within is below above moves small n g =
     let each : length (inventory_of h H).rooms ≡ length h.rooms = length-map-range_with_len (rooms_at h H) 0 (length h.rooms) in
@@ -74,12 +101,18 @@ left_resized h H G night new up k within is below above moves small n g =
     let sold = sold_read h H G v is n g ∙ sold_of_stock h H n g in
     elim (cases_eq n night) [
       | inl here ↦
-          let rooms : rooms_at h G n ≡ new = rooms_read h H G v is n g ∙ ap (λ m. slice_index v.rooms m) here ∙ get_or-set_same (inventory_of h H).rooms night new 0 (omega (arith, each)) in
-          let there : covers (night_span night) n ≡ true = ap (covers (night_span night)) here ∙ covers_inside night (night + 1) night (omega arith) (omega arith) in
-          let left : rooms_left_at h G n ≡ moved (rooms_left_at h H n) up k = ap (λ r. r - sold_at h G n) (rooms ∙ moves) ∙ ap (λ s. moved (rooms_at h H night) up k - s) sold ∙ ap (λ m. moved (rooms_at h H m) up k - sold_at h H n) (sym here) ∙ set_to up (rooms_at h H n) (sold_at h H n) (omega (arith, below, ap (sold_at h H) here, ap (rooms_at h H) here)) (λ down. omega (arith, small down, ap (rooms_at h H) here)) in
+          let rooms : rooms_at h G n ≡ new = rooms_read h H G v is n g ∙ ap (λ m. slice_index v.rooms m) here ∙
+          get_or-set_same (inventory_of h H).rooms night new 0 (omega (arith, each)) in
+          let there : covers (night_span night) n ≡ true = ap (covers (night_span night)) here ∙
+          covers_inside night (night + 1) night (omega arith) (omega arith) in
+          let left : rooms_left_at h G n ≡ moved (rooms_left_at h H n) up k = ap (λ r. r - sold_at h G n) (rooms ∙ moves) ∙
+          ap (λ s. moved (rooms_at h H night) up k - s) sold ∙ ap (λ m. moved (rooms_at h H m) up k - sold_at h H n) (sym here) ∙
+          set_to up (rooms_at h H n) (sold_at h H n) (omega (arith, below, ap (sold_at h H) here, ap (rooms_at h H) here))
+          (λ down. omega (arith, small down, ap (rooms_at h H) here)) in
           left ∙ sym (cond-true _ _ _ there)
       | inr other ↦
-          let rooms : rooms_at h G n ≡ rooms_at h H n = rooms_read h H G v is n g ∙ get_or-set_other (inventory_of h H).rooms night n new 0 other ∙ rooms_of_stock h H n g in
+          let rooms : rooms_at h G n ≡ rooms_at h H n = rooms_read h H G v is n g ∙ get_or-set_other (inventory_of h H).rooms night n new 0 other ∙
+          rooms_of_stock h H n g in
           let left : rooms_left_at h G n ≡ rooms_left_at h H n = ap (λ r. r - sold_at h G n) rooms ∙ ap (λ s. rooms_at h H n - s) sold in
           left ∙ sym (cond-false _ _ _ (night_alone night n other))
     ]

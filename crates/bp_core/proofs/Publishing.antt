@@ -27,8 +27,10 @@ vectors_left h H legal not_full =
       | inr full ↦ absurd (not_full (omega (arith, vectors_fit h H legal)))
     ]
 
-pub publish_is_legal : (h : Inn) (H : History) (caller : ℕ) (board : Posted) → IsLegal h H → IsTrue (may_log H caller (Publish board.position)) → board.position ≤ length H → IsCertificateOf (instance_at h H board.position) board.certificate →
-    1 ≤ changes_between H (last_position H) board.position → ((vectors H ≡ h.limits.publications) → ⊥) → IsLegalLine h H (published_line caller board (vectors H))
+pub publish_is_legal : (h : Inn) (H : History) (caller : ℕ) (board : Posted) → IsLegal h H → IsTrue (may_log H caller (Publish board.position)) →
+    board.position ≤ length H → IsCertificateOf (instance_at h H board.position) board.certificate →
+    1 ≤ changes_between H (last_position H) board.position → ((vectors H ≡ h.limits.publications) → ⊥) →
+    IsLegalLine h H (published_line caller board (vectors H))
 publish_is_legal h H caller board legal may within certifies newer not_full = record {
   opening = opened h H (published_line caller board (vectors H)) legal;
   caller = may;
@@ -43,7 +45,8 @@ publish_is_legal h H caller board legal may within certifies newer not_full = re
 publish_is_quiet : (caller : ℕ) (board : Posted) (number : ℕ) → IsQuiet (published_line caller board number)
 publish_is_quiet caller board number = record { no_book = refl; no_resize = λ n. refl; no_cancel = λ k nth. and_false (caller == k); no_group = λ n. refl }
 
-pub publish_follows : (h : Inn) (log : LogView) (roll : RollView) (inventory : Inventory) (forecasts rates : List ℕ) (caller : ℕ) (board : Posted) → AreInStep h log roll inventory forecasts rates →
+pub publish_follows : (h : Inn) (log : LogView) (roll : RollView) (inventory : Inventory) (forecasts rates : List ℕ) (caller : ℕ) (board : Posted) →
+    AreInStep h log roll inventory forecasts rates →
     Follows h log.lines roll roll inventory forecasts rates (published_line caller board (vectors log.lines))
 publish_follows h log roll inventory forecasts rates caller board kept =
     let x : Line = published_line caller board (vectors log.lines) in

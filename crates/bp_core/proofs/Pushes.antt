@@ -1,5 +1,28 @@
 -- A history with one line more.
-use Rattle.std.proofs.Common.{◌≡◌, ℕ, ◌+◌, ◌<◌, refl, ap, ◌∙◌, arith, Bool, true, false, cond, ◌||◌, [], ◌∷◌, ◌++◌, length, count_by, Option, unwrap_or, inl, inr}
+use Rattle.std.proofs.Common.{
+  ◌≡◌,
+  ℕ,
+  ◌+◌,
+  ◌<◌,
+  refl,
+  ap,
+  ◌∙◌,
+  arith,
+  Bool,
+  true,
+  false,
+  cond,
+  ◌||◌,
+  [],
+  ◌∷◌,
+  ◌++◌,
+  length,
+  count_by,
+  Option,
+  unwrap_or,
+  inl,
+  inr,
+}
 use Rattle.std.proofs.Common.{length-append}
 use Rattle.std.specs.List.{list_any, sum_by}
 use Rattle.std.proofs.Math.ListN.{get_or-append}
@@ -19,7 +42,8 @@ line_at-old H x i h = get_or-append H (x ∷ []) no_line i h
 pub line_at-new : (H : History) (x : Line) → line_at (H ++ x ∷ []) (length H) ≡ x
 line_at-new H x = get_or-append_seam H x [] no_line
 
-pub last_value-push : {X : Type 0} (value : Line → Option X) (d : X) (H : History) (x : Line) → last_value value d (H ++ x ∷ []) ≡ unwrap_or (value x) (last_value value d H)
+pub last_value-push : {X : Type 0} (value : Line → Option X) (d : X) (H : History) (x : Line) →
+    last_value value d (H ++ x ∷ []) ≡ unwrap_or (value x) (last_value value d H)
 last_value-push value d [] x = refl
 last_value-push value d (y ∷ H) x = last_value-push value (unwrap_or (value y) d) H x
 
@@ -44,14 +68,16 @@ or_true false = refl
 pub since-push_hit : (p : Line → Bool) (H : History) (x : Line) → p x ≡ true → since p (H ++ x ∷ []) ≡ []
 since-push_hit p [] x hit = rw hit refl
 since-push_hit p (y ∷ H) x hit =
-    let any : list_any p (y ∷ (H ++ x ∷ [])) ≡ true = ap (λ b. p y || b) (any-push p H x ∙ ap (λ b. list_any p H || b) hit ∙ or_true (list_any p H)) ∙ or_true (p y) in
+    let any : list_any p (y ∷ (H ++ x ∷ [])) ≡ true = ap (λ b. p y || b) (any-push p H x ∙ ap (λ b. list_any p H || b) hit ∙ or_true (list_any p H)) ∙
+    or_true (p y) in
     rw any (since-push_hit p H x hit)
 
 -- a line that does not pass stands since
 pub since-push_miss : (p : Line → Bool) (H : History) (x : Line) → p x ≡ false → since p (H ++ x ∷ []) ≡ since p H ++ x ∷ []
 since-push_miss p [] x miss = rw miss refl
 since-push_miss p (y ∷ H) x miss =
-    let any : list_any p (y ∷ (H ++ x ∷ [])) ≡ list_any p (y ∷ H) = ap (λ b. p y || b) (any-push p H x ∙ ap (λ b. list_any p H || b) miss ∙ or_false (list_any p H)) in
+    let any : list_any p (y ∷ (H ++ x ∷ [])) ≡ list_any p (y ∷ H) =
+    ap (λ b. p y || b) (any-push p H x ∙ ap (λ b. list_any p H || b) miss ∙ or_false (list_any p H)) in
     elim (cases_Bool (list_any p (y ∷ H))) [
       | inl some ↦ rw (any, some) (since-push_miss p H x miss)
       | inr none ↦ rw (any, none) refl

@@ -30,7 +30,8 @@ fewer (x ∷ xs) whole (before, after, is, rest) n =
     let both : length (calls (x ∷ xs) n) ≤ length (calls (x ∷ after) n) = more (is_by n x) r in
     omega (arith, e, f, g, both)
   where
-    more : (b : Bool) → length (calls xs n) ≤ length (calls after n) → length (cond b (x ∷ calls xs n) (calls xs n)) ≤ length (cond b (x ∷ calls after n) (calls after n))
+    more : (b : Bool) → length (calls xs n) ≤ length (calls after n) →
+        length (cond b (x ∷ calls xs n) (calls xs n)) ≤ length (cond b (x ∷ calls after n) (calls after n))
     more true r = omega arith
     more false r = r
 

@@ -1,5 +1,31 @@
 -- The rooms of a night are set, or are not.
-use Rattle.std.proofs.Common.{◌≡◌, ℕ, ◌<◌, ◌≤◌, refl, ap, sym, ◌∙◌, arith, true, false, ◌==◌, nat_lt, IsTrue, List, [], ◌∷◌, ◌++◌, length, slice_index, Some, None, unwrap_or, inl, inr}
+use Rattle.std.proofs.Common.{
+  ◌≡◌,
+  ℕ,
+  ◌<◌,
+  ◌≤◌,
+  refl,
+  ap,
+  sym,
+  ◌∙◌,
+  arith,
+  true,
+  false,
+  ◌==◌,
+  nat_lt,
+  IsTrue,
+  List,
+  [],
+  ◌∷◌,
+  ◌++◌,
+  length,
+  slice_index,
+  Some,
+  None,
+  unwrap_or,
+  inl,
+  inr,
+}
 use Rattle.std.proofs.lemmas.Bool.{cond-true, cond-false, lt-ltb, le-ltb, cases_lt}
 use Rattle.std.proofs.lemmas.List.FromFn.{length-map-range_with_len}
 use Rattle.bp_types.specs.House.{Inn}
@@ -26,7 +52,8 @@ use Rattle.bp_core.proofs.Effects.{numbers_same, numbers_set, opened, bookings_k
 use Rattle.bp_core.proofs.InStepMore.{Follows}
 use Rattle.bp_core.proofs.Quiet.{IsQuiet, follows_quiet, quiet_forecasts, quiet_rates}
 
-pub resize_is_legal : (h : Inn) (H : History) (caller night rooms : ℕ) (reply : Reply) → IsLegal h H → IsTrue (may_log H caller (Do (Resize night rooms))) → IsTrue (is_in_range h (Do (Resize night rooms))) → ((commands H ≡ h.limits.entries) → ⊥) →
+pub resize_is_legal : (h : Inn) (H : History) (caller night rooms : ℕ) (reply : Reply) → IsLegal h H → IsTrue (may_log H caller (Do (Resize night rooms))) →
+    IsTrue (is_in_range h (Do (Resize night rooms))) → ((commands H ≡ h.limits.entries) → ⊥) →
     reply ≡ resize_reply h H night rooms → IsLegalLine h H (plain_line caller (Do (Resize night rooms)) reply)
 resize_is_legal h H caller night rooms reply legal may range not_full is = record {
   opening = opened h H (plain_line caller (Do (Resize night rooms)) reply) legal;
@@ -50,7 +77,8 @@ done_reply h H night rooms above = sym (cond-false _ _ _ (le-ltb _ _ above))
 refused_is_quiet : (caller night rooms sold : ℕ) → IsQuiet (plain_line caller (Do (Resize night rooms)) (BelowSold sold))
 refused_is_quiet caller night rooms sold = record { no_book = refl; no_resize = λ n. refl; no_cancel = λ k nth. and_false (caller == k); no_group = λ n. refl }
 
-pub below_sold_follows : (h : Inn) (log : LogView) (roll : RollView) (inventory : Inventory) (forecasts rates : List ℕ) (caller night rooms sold : ℕ) → AreInStep h log roll inventory forecasts rates →
+pub below_sold_follows : (h : Inn) (log : LogView) (roll : RollView) (inventory : Inventory) (forecasts rates : List ℕ) (caller night rooms sold : ℕ) →
+    AreInStep h log roll inventory forecasts rates →
     Follows h log.lines roll roll inventory forecasts rates (plain_line caller (Do (Resize night rooms)) (BelowSold sold))
 below_sold_follows h log roll inventory forecasts rates caller night rooms sold kept =
     let x : Line = plain_line caller (Do (Resize night rooms)) (BelowSold sold) in
@@ -60,17 +88,25 @@ below_sold_follows h log roll inventory forecasts rates caller night rooms sold 
     (kept.rates_are ∙ quiet_rates h log.lines x (λ j. refl))
 
 -- the stock with the rooms of a night set
-pub stock_resized : (h : Inn) (H : History) (caller night rooms : ℕ) → night < length h.rooms → resized (inventory_of h H) night rooms ≡ inventory_of h (H ++ plain_line caller (Do (Resize night rooms)) Done ∷ [])
+pub stock_resized : (h : Inn) (H : History) (caller night rooms : ℕ) → night < length h.rooms →
+    resized (inventory_of h H) night rooms ≡ inventory_of h (H ++ plain_line caller (Do (Resize night rooms)) Done ∷ [])
 stock_resized h H caller night rooms within =
     let x : Line = plain_line caller (Do (Resize night rooms)) Done in
     let G : History = H ++ x ∷ [] in
-    let here : rooms ≡ rooms_at h G night = sym (last_value-push (resized_rooms night) (slice_index h.rooms night) H x ∙ ap (λ o. unwrap_or o (rooms_at h H night)) (cond-true _ (Some rooms) None (own_number night))) in
-    let others : (n : ℕ) → n < length h.rooms → (n ≡ night → ⊥) → rooms_at h H n ≡ rooms_at h G n = λ n g ne. sym (last_value-push (resized_rooms n) (slice_index h.rooms n) H x ∙ ap (λ o. unwrap_or o (rooms_at h H n)) (cond-false _ (Some rooms) None (other_number night n ne))) in
+    let here : rooms ≡ rooms_at h G night =
+    sym (last_value-push (resized_rooms night) (slice_index h.rooms night) H x ∙
+    ap (λ o. unwrap_or o (rooms_at h H night)) (cond-true _ (Some rooms) None (own_number night))) in
+    let others : (n : ℕ) → n < length h.rooms → (n ≡ night → ⊥) →
+    rooms_at h H n ≡ rooms_at h G n =
+    λ n g ne. sym (last_value-push (resized_rooms n) (slice_index h.rooms n) H x ∙
+    ap (λ o. unwrap_or o (rooms_at h H n)) (cond-false _ (Some rooms) None (other_number night n ne))) in
     let rooms_are = numbers_set (rooms_at h H) (rooms_at h G) (length h.rooms) night rooms within here others in
     let sold_are = numbers_same (sold_at h H) (sold_at h G) (length h.rooms) (λ n g. omega (arith, sold_at-push h H x n (λ k nth. and_false (caller == k)))) in
-    ap (λ (r : List ℕ). record { rooms = r; sold = (inventory_of h H).sold }) rooms_are ∙ ap (λ (s : List ℕ). record { rooms = (inventory_of h G).rooms; sold = s }) sold_are
+    ap (λ (r : List ℕ). record { rooms = r; sold = (inventory_of h H).sold }) rooms_are ∙
+    ap (λ (s : List ℕ). record { rooms = (inventory_of h G).rooms; sold = s }) sold_are
 
-pub resized_follows : (h : Inn) (log : LogView) (roll : RollView) (inventory inventory' : Inventory) (forecasts rates : List ℕ) (caller night rooms : ℕ) → AreInStep h log roll inventory forecasts rates → night < length h.rooms → inventory' ≡ resized inventory night rooms →
+pub resized_follows : (h : Inn) (log : LogView) (roll : RollView) (inventory inventory' : Inventory) (forecasts rates : List ℕ) (caller night rooms : ℕ) →
+    AreInStep h log roll inventory forecasts rates → night < length h.rooms → inventory' ≡ resized inventory night rooms →
     Follows h log.lines roll roll inventory' forecasts rates (plain_line caller (Do (Resize night rooms)) Done)
 resized_follows h log roll inventory inventory' forecasts rates caller night rooms kept within is =
     let H : History = log.lines in

@@ -1,5 +1,30 @@
 -- What a line and an answer say of the history before them.
-use Rattle.std.proofs.Common.{◌≡◌, ℕ, ◌*◌, ◌∙◌, refl, sym, subst, ap, arith, Bool, true, false, cond, ◌==◌, [], ◌∷◌, ◌++◌, length, Option, Some, None, is_some, MatchOption, nat_le}
+use Rattle.std.proofs.Common.{
+  ◌≡◌,
+  ℕ,
+  ◌*◌,
+  ◌∙◌,
+  refl,
+  sym,
+  subst,
+  ap,
+  arith,
+  Bool,
+  true,
+  false,
+  cond,
+  ◌==◌,
+  [],
+  ◌∷◌,
+  ◌++◌,
+  length,
+  Option,
+  Some,
+  None,
+  is_some,
+  MatchOption,
+  nat_le,
+}
 use Rattle.std.proofs.Math.Seq.{take-append_seam}
 use Rattle.std.proofs.lemmas.Bool.{leb-true, eqb-true, eqb-false}
 use Rattle.bp_types.specs.House.{Inn}
@@ -32,16 +57,19 @@ last_line_is_legal h H x legal =
     let Q : Line → Type 0 = λ y. IsLegalLine h H y in
     subst Q (line_at-new H x) (subst P (take-append_seam H (x ∷ [])) each)
 
-group_once : DisplacementIsUnique → (h : Inn) (H : History) (span : Span) (rooms amount : ℕ) (r s : Reply) → IsGroupReply h H span rooms amount r → IsGroupReply h H span rooms amount s → r ≡ s
+group_once : DisplacementIsUnique → (h : Inn) (H : History) (span : Span) (rooms amount : ℕ) (r s : Reply) → IsGroupReply h H span rooms amount r →
+    IsGroupReply h H span rooms amount s → r ≡ s
 group_once unique h H span rooms amount r s a b = go (first_short (rooms_left_at h H) span rooms) a b
   where
-    go : (o : Option ℕ) → MatchOption o (IsPricedReply h H span rooms amount r) (λ night. r ≡ GroupNoRoom night) → MatchOption o (IsPricedReply h H span rooms amount s) (λ night. s ≡ GroupNoRoom night) → r ≡ s
+    go : (o : Option ℕ) → MatchOption o (IsPricedReply h H span rooms amount r) (λ night. r ≡ GroupNoRoom night) →
+        MatchOption o (IsPricedReply h H span rooms amount s) (λ night. s ≡ GroupNoRoom night) → r ≡ s
     go None x y =
         let same = unique (instance_of h H) span (h.limits.unit * rooms) x.displacement y.displacement x.displaces y.displaces in
         x.answers ∙ ap (group_reply (h.limits.unit * amount)) same ∙ sym y.answers
     go (Some night) x y = x ∙ sym y
 
-command_once : DisplacementIsUnique → (h : Inn) (H : History) (caller : ℕ) (command : Command) (r s : Reply) → IsCommandReply h H caller command r → IsCommandReply h H caller command s → r ≡ s
+command_once : DisplacementIsUnique → (h : Inn) (H : History) (caller : ℕ) (command : Command) (r s : Reply) → IsCommandReply h H caller command r →
+    IsCommandReply h H caller command s → r ≡ s
 command_once unique h H caller (Book stay) r s a b = a ∙ sym b
 command_once unique h H caller (Cancel nth) r s a b = a ∙ sym b
 command_once unique h H caller (Reforecast stay count) r s a b = a ∙ sym b
@@ -66,21 +94,31 @@ abbrev Causes : Diary → Command → Option Quoted → Answer → Type 0
 Causes b c q (Logged reply) = ⊥
 Causes b c q a = IsCause b c q a
 
-behind : (b : Diary) (stay : ℕ) (q : Option Quoted) (a : Answer) → (IsFull b → ⊥) → command_refusal b.house b.history (Book stay) q ≡ Some a → Causes b (Book stay) q a
+behind : (b : Diary) (stay : ℕ) (q : Option Quoted) (a : Answer) → (IsFull b → ⊥) → command_refusal b.house b.history (Book stay) q ≡ Some a →
+    Causes b (Book stay) q a
 behind b stay q a not_full is = go (nat_le b.house.limits.stale_after changes) refl is
   where
     changes : ℕ
     changes = changes_after b.history (last_position b.history)
 
     go : (t : Bool) → nat_le b.house.limits.stale_after changes ≡ t → refuse_if t (Behind (last_position b.history) changes) ≡ Some a → Causes b (Book stay) q a
-    go true t e = subst (Causes b (Book stay) q) (same_some _ a e) (record { stay = stay; book = refl; not_full = not_full; position_is = refl; changes_are = refl; too_many = leb-true _ _ t })
+    go true t e = subst (Causes b (Book stay) q) (same_some _ a e) (record {
+      stay = stay;
+      book = refl;
+      not_full = not_full;
+      position_is = refl;
+      changes_are =
+          refl;
+      too_many = leb-true _ _ t;
+    })
     go false f e = no_some _ a e
 
 quote_asked : (b : Diary) (c : Command) (q : Option Quoted) (a : Answer) → NeedsQuote b c → quote_refusal b.history q ≡ Some a → Causes b c q a
 quote_asked b c None a needs is = subst (Causes b c None) (same_some _ a is) (needs, refl)
 quote_asked b c (Some x) a needs is = go (nat_le 1 (changes_after b.history x.position)) refl is
   where
-    go : (t : Bool) → nat_le 1 (changes_after b.history x.position) ≡ t → refuse_if t (Stale (changes_after b.history x.position)) ≡ Some a → Causes b c (Some x) a
+    go : (t : Bool) → nat_le 1 (changes_after b.history x.position) ≡ t → refuse_if t (Stale (changes_after b.history x.position)) ≡ Some a →
+        Causes b c (Some x) a
     go true t e = subst (Causes b c (Some x)) (same_some _ a e) (needs, record { quote = x; given = refl; changes_are = refl; some = leb-true _ _ t })
     go false f e = no_some _ a e
 
@@ -88,7 +126,8 @@ command_cause : (b : Diary) (c : Command) (q : Option Quoted) (a : Answer) → (
 command_cause b (Book stay) q a not_full is = behind b stay q a not_full is
 command_cause b (Group span rooms amount) q a not_full is = go (first_short (rooms_left_at b.house b.history) span rooms) refl is
   where
-    go : (o : Option ℕ) → first_short (rooms_left_at b.house b.history) span rooms ≡ o → cond (is_some o) None (quote_refusal b.history q) ≡ Some a → Causes b (Group span rooms amount) q a
+    go : (o : Option ℕ) → first_short (rooms_left_at b.house b.history) span rooms ≡ o → cond (is_some o) None (quote_refusal b.history q) ≡ Some a →
+        Causes b (Group span rooms amount) q a
     go None e r = quote_asked b (Group span rooms amount) q a e r
     go (Some night) e r = no_some _ a r
 command_cause b (Cancel nth) q a not_full is = no_some _ a is
@@ -99,7 +138,8 @@ command_cause b (Resize night rooms) q a not_full is = no_some _ a is
 cause : (b : Diary) (c : Command) (q : Option Quoted) (a : Answer) → refusal b.house b.history (Do c q) ≡ Some a → Causes b c q a
 cause b c q a is = go (commands b.history == b.house.limits.entries) refl is
   where
-    go : (t : Bool) → (commands b.history == b.house.limits.entries) ≡ t → cond t (Some HistoryFull) (command_refusal b.house b.history c q) ≡ Some a → Causes b c q a
+    go : (t : Bool) → (commands b.history == b.house.limits.entries) ≡ t → cond t (Some HistoryFull) (command_refusal b.house b.history c q) ≡ Some a →
+        Causes b c q a
     go true t e = subst (Causes b c q) (same_some _ a e) (eqb-true (commands b.history) b.house.limits.entries t)
     go false f e = command_cause b c q a (eqb-false (commands b.history) b.house.limits.entries f) e
 
@@ -115,6 +155,7 @@ refused_says old new caller c q PublicationsFull same s = (same, s)
 pub answers_say : AnswersSay
 answers_say old new caller c q a is = go (refusal old.house old.history (Do c q)) refl is
   where
-    go : (o : Option Answer) → refusal old.house old.history (Do c q) ≡ o → MatchOption o (IsLogged old new caller (Do c q) a) (IsRefused old new a) → IsSaid old new caller c q a
+    go : (o : Option Answer) → refusal old.house old.history (Do c q) ≡ o → MatchOption o (IsLogged old new caller (Do c q) a) (IsRefused old new a) →
+        IsSaid old new caller c q a
     go None e l = subst (IsSaid old new caller c q) (sym l.answer_is) (record { line = l.adds; reply_is = l.replies })
     go (Some b) e r = subst (IsSaid old new caller c q) (sym r.0) (refused_says old new caller c q b r.1 (cause old c q b e))

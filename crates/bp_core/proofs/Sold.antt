@@ -1,5 +1,29 @@
 -- The sold rooms of a history with one line more.
-use Rattle.std.proofs.Common.{◌≡◌, ℕ, suc, ◌+◌, ◌<◌, ◌≤◌, refl, ap, ◌∙◌, arith, Bool, true, false, not, cond, ◌||◌, ◌&&◌, [], ◌∷◌, ◌++◌, length, drop, unwrap_or}
+use Rattle.std.proofs.Common.{
+  ◌≡◌,
+  ℕ,
+  suc,
+  ◌+◌,
+  ◌<◌,
+  ◌≤◌,
+  refl,
+  ap,
+  ◌∙◌,
+  arith,
+  Bool,
+  true,
+  false,
+  not,
+  cond,
+  ◌||◌,
+  ◌&&◌,
+  [],
+  ◌∷◌,
+  ◌++◌,
+  length,
+  drop,
+  unwrap_or,
+}
 use Rattle.std.proofs.lemmas.List.{take-append-le, drop-append-le}
 use Rattle.std.proofs.Math.Seq.{drop-append-add}
 use Rattle.bp_types.specs.Sums.{sum_below}
@@ -18,7 +42,11 @@ book_number-old H x i h = rw (line_at-old H x i h, take-append-le (i + 1) H (x �
 pub is_given_up-old : (H : History) (x : Line) (i : ℕ) → i < length H →
     is_given_up (H ++ x ∷ []) i ≡ (is_given_up H i || is_cancellation (line_at H i).entry.caller (book_number H i) x)
 is_given_up-old H x i h =
-    rw (book_number-old H x i h, line_at-old H x i h, drop-append-le (i + 1) H (x ∷ []) (omega arith)) (any-push (is_cancellation (line_at H i).entry.caller (book_number H i)) (drop (i + 1) H) x)
+    rw (
+      book_number-old H x i h,
+      line_at-old H x i h,
+      drop-append-le (i + 1) H (x ∷ []) (omega arith),
+    ) (any-push (is_cancellation (line_at H i).entry.caller (book_number H i)) (drop (i + 1) H) x)
 
 -- nothing stands after the line that is added
 pub is_given_up-new : (H : History) (x : Line) → is_given_up (H ++ x ∷ []) (length H) ≡ false
@@ -28,7 +56,12 @@ is_given_up-new H x = rw (drop-append-add H (x ∷ []) 1) refl
 pub holds_room-old : (h : Inn) (H : History) (x : Line) (n i : ℕ) → i < length H →
     holds_room h (H ++ x ∷ []) n i ≡ (holds_room h H n i && not (is_cancellation (line_at H i).entry.caller (book_number H i) x))
 holds_room-old h H x n i in_range =
-    rw (is_given_up-old H x i in_range, line_at-old H x i in_range) (apart (is_book (line_at H i) && is_accepted (line_at H i).entry.reply) (is_given_up H i) (is_cancellation (line_at H i).entry.caller (book_number H i) x) (covers (span_of h (stay_booked H i)) n))
+    rw (
+      is_given_up-old H x i in_range,
+      line_at-old H x i in_range,
+    )
+    (apart (is_book (line_at H i) && is_accepted (line_at H i).entry.reply) (is_given_up H i)
+    (is_cancellation (line_at H i).entry.caller (book_number H i) x) (covers (span_of h (stay_booked H i)) n))
   where
     apart : (booked given now night : Bool) → ((booked && not (given || now)) && night) ≡ (((booked && not given) && night) && not now)
     apart true true now night = refl
@@ -43,7 +76,8 @@ abbrev pub books_night : Inn → ℕ → Line → Bool
 books_night h n x = (is_book x && is_accepted x.entry.reply) && covers (span_of h (unwrap_or (booked_stay x.entry.act) 0)) n
 
 pub holds_room-new : (h : Inn) (H : History) (x : Line) (n : ℕ) → holds_room h (H ++ x ∷ []) n (length H) ≡ books_night h n x
-holds_room-new h H x n = rw (is_given_up-new H x, line_at-new H x) (apart (is_book x && is_accepted x.entry.reply) (covers (span_of h (unwrap_or (booked_stay x.entry.act) 0)) n))
+holds_room-new h H x n =
+    rw (is_given_up-new H x, line_at-new H x) (apart (is_book x && is_accepted x.entry.reply) (covers (span_of h (unwrap_or (booked_stay x.entry.act) 0)) n))
   where
     apart : (booked night : Bool) → ((booked && true) && night) ≡ (booked && night)
     apart true night = refl
@@ -57,7 +91,8 @@ pub held_at-push_sum : (h : Inn) (H : History) (x : Line) (n : ℕ) →
     held_at h (H ++ x ∷ []) n ≡ sum_below (λ i. cond (holds_room h (H ++ x ∷ []) n i) 1 0) (length H) + cond (books_night h n x) 1 0
 held_at-push_sum h H x n =
     let f : ℕ → ℕ = λ i. cond (holds_room h (H ++ x ∷ []) n i) 1 0 in
-    let more : sum_below f (length (H ++ x ∷ [])) ≡ sum_below f (suc (length H)) = ap (sum_below f) (let e : length (H ++ x ∷ []) ≡ suc (length H) = omega (arith, length-push H x) in e) in
+    let more : sum_below f (length (H ++ x ∷ [])) ≡ sum_below f (suc (length H)) =
+    ap (sum_below f) (let e : length (H ++ x ∷ []) ≡ suc (length H) = omega (arith, length-push H x) in e) in
     more ∙ ap (λ b. sum_below f (length H) + cond b 1 0) (holds_room-new h H x n)
 
 no_more : (a b : Bool) → cond (a && b) 1 0 ≤ cond a 1 0
@@ -69,7 +104,9 @@ no_more false b = omega arith
 pub sold_at-push_le : (h : Inn) (H : History) (x : Line) (n : ℕ) →
     sold_at h (H ++ x ∷ []) n ≤ sold_at h H n + cond (books_night h n x) 1 0 + rooms_of_group n x
 sold_at-push_le h H x n =
-    let old : sum_below (λ i. cond (holds_room h (H ++ x ∷ []) n i) 1 0) (length H) ≤ held_at h H n = sum_below-le _ _ (length H) (λ i g. rw (holds_room-old h H x n i g) (no_more (holds_room h H n i) (not (is_cancellation (line_at H i).entry.caller (book_number H i) x)))) in
+    let old : sum_below (λ i. cond (holds_room h (H ++ x ∷ []) n i) 1 0) (length H) ≤ held_at h H n =
+    sum_below-le _ _ (length H)
+    (λ i g. rw (holds_room-old h H x n i g) (no_more (holds_room h H n i) (not (is_cancellation (line_at H i).entry.caller (book_number H i) x)))) in
     omega (arith, old, held_at-push_sum h H x n, sum-push (rooms_of_group n) H x)
 
 and_true : (b : Bool) → (b && true) ≡ b
@@ -80,5 +117,7 @@ and_true false = refl
 pub sold_at-push : (h : Inn) (H : History) (x : Line) (n : ℕ) → ((caller nth : ℕ) → is_cancellation caller nth x ≡ false) →
     sold_at h (H ++ x ∷ []) n ≡ sold_at h H n + cond (books_night h n x) 1 0 + rooms_of_group n x
 sold_at-push h H x n none =
-    let old : sum_below (λ i. cond (holds_room h (H ++ x ∷ []) n i) 1 0) (length H) ≡ held_at h H n = sum_below-cong _ _ (length H) (λ i g. rw (holds_room-old h H x n i g, none (line_at H i).entry.caller (book_number H i)) (ap (λ b. cond b 1 0) (and_true (holds_room h H n i)))) in
+    let old : sum_below (λ i. cond (holds_room h (H ++ x ∷ []) n i) 1 0) (length H) ≡ held_at h H n =
+    sum_below-cong _ _ (length H)
+    (λ i g. rw (holds_room-old h H x n i g, none (line_at H i).entry.caller (book_number H i)) (ap (λ b. cond b 1 0) (and_true (holds_room h H n i)))) in
     omega (arith, old, held_at-push_sum h H x n, sum-push (rooms_of_group n) H x)

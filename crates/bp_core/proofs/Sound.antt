@@ -1,5 +1,31 @@
 -- No night of a legal history is oversold, and its instance keeps to the limits.
-use Rattle.std.proofs.Common.{◌≡◌, ℕ, ◌+◌, ◌<◌, ◌≤◌, ap, sym, subst, ◌∙◌, arith, cond, IsTrue, ◌==◌, ◌&&◌, [], ◌∷◌, ◌++◌, length, take, slice_index, Option, None, unwrap_or, inl, inr}
+use Rattle.std.proofs.Common.{
+  ◌≡◌,
+  ℕ,
+  ◌+◌,
+  ◌<◌,
+  ◌≤◌,
+  ap,
+  sym,
+  subst,
+  ◌∙◌,
+  arith,
+  cond,
+  IsTrue,
+  ◌==◌,
+  ◌&&◌,
+  [],
+  ◌∷◌,
+  ◌++◌,
+  length,
+  take,
+  slice_index,
+  Option,
+  None,
+  unwrap_or,
+  inl,
+  inr,
+}
 use Rattle.std.proofs.Math.Nat.{mul-le-mul}
 use Rattle.std.proofs.Math.Seq.{take-length}
 use Rattle.std.proofs.lemmas.Bool.{cases_Bool, and_parts, eqb-true}
@@ -16,7 +42,20 @@ use Rattle.bp_core.specs.declared.line.Act.TheVariants.{Do, Publish, Enrol, Leav
 use Rattle.bp_core.specs.declared.line.Reply.{Reply}
 use Rattle.bp_core.specs.declared.line.Line.{Line}
 use Rattle.bp_core.specs.Lines.{History, last_value, is_accepted, is_done, is_group_accepted}
-use Rattle.bp_core.specs.Instance.{house_stay, span_of, resized_rooms, rooms_at, sold_at, rooms_left_at, rooms_of_group, reforecast_count, reprice_rate, rate_of, stay_now, units_left_at}
+use Rattle.bp_core.specs.Instance.{
+  house_stay,
+  span_of,
+  resized_rooms,
+  rooms_at,
+  sold_at,
+  rooms_left_at,
+  rooms_of_group,
+  reforecast_count,
+  reprice_rate,
+  rate_of,
+  stay_now,
+  units_left_at,
+}
 use Rattle.bp_core.specs.Answer.{IsReply}
 use Rattle.bp_core.specs.Legal.{IsLegal, IsLegalLine, is_in_range}
 use Rattle.bp_core.specs.Laws.{KeepsLimits, NeverOversold}
@@ -33,13 +72,15 @@ a_line caller act reply certificate = record { entry = record { caller = caller;
 -- what the line sells is left, or its rooms are above what is sold
 sells_what_is_left : (h : Inn) (H : History) (n caller : ℕ) (act : Act) (reply : Reply) (certificate : Option Claim) →
     IsReply h H caller act reply → sold_at h H n ≤ rooms_at h H n →
-    sold_at h H n + cond (books_night h n (a_line caller act reply certificate)) 1 0 + rooms_of_group n (a_line caller act reply certificate) ≤ unwrap_or (resized_rooms n (a_line caller act reply certificate)) (rooms_at h H n)
+    sold_at h H n + cond (books_night h n (a_line caller act reply certificate)) 1 0 + rooms_of_group n (a_line caller act reply certificate) ≤ unwrap_or
+    (resized_rooms n (a_line caller act reply certificate)) (rooms_at h H n)
 sells_what_is_left h H n caller (Do (Book stay)) reply certificate replies below =
     rw (cond_same {X = Option ℕ} (is_done reply) None, cond_same {X = ℕ} (is_group_accepted reply) 0)
     (elim (cases_Bool (is_accepted reply && covers (span_of h stay) n)) [
       | inl both ↦
           let parts = and_parts _ _ both in
-          let room : 1 ≤ rooms_left_at h H n = enough_on (rooms_left_at h H) 1 (span_of h stay) n (accepted_has_room h H stay (sym (ap is_accepted replies) ∙ parts.0)) parts.1 in
+          let room : 1 ≤ rooms_left_at h H n =
+          enough_on (rooms_left_at h H) 1 (span_of h stay) n (accepted_has_room h H stay (sym (ap is_accepted replies) ∙ parts.0)) parts.1 in
           rw both (omega (arith, room, below))
       | inr none ↦ rw none (omega (arith, below))
     ])
@@ -70,7 +111,8 @@ sells_what_is_left h H n caller (Do (Group span rooms amount)) reply certificate
           rw accepted
           (elim (cases_Bool (covers span n)) [
             | inl inside ↦
-                let enough : rooms ≤ rooms_left_at h H n = enough_on (rooms_left_at h H) rooms span n (accepted_group_has_rooms h H span rooms amount reply replies accepted) inside in
+                let enough : rooms ≤ rooms_left_at h H n =
+                enough_on (rooms_left_at h H) rooms span n (accepted_group_has_rooms h H span rooms amount reply replies accepted) inside in
                 rw inside (omega (arith, enough, below))
             | inr outside ↦ rw outside (omega (arith, below))
           ])
@@ -98,7 +140,8 @@ sound_at_start h is = record {
   counts = λ j g. is.instance.forecasts j no_stay g;
 }
 
-rooms_stay_small : (h : Inn) (H : History) (n : ℕ) (x : Line) → IsTrue (is_in_range h x.entry.act) → rooms_at h H n ≤ MOST_ROOMS → rooms_at h (H ++ x ∷ []) n ≤ MOST_ROOMS
+rooms_stay_small : (h : Inn) (H : History) (n : ℕ) (x : Line) → IsTrue (is_in_range h x.entry.act) → rooms_at h H n ≤ MOST_ROOMS →
+    rooms_at h (H ++ x ∷ []) n ≤ MOST_ROOMS
 rooms_stay_small h H n x range before =
     rw (last_value-push (resized_rooms n) (slice_index h.rooms n) H x)
     (elim (cases_Option (resized_rooms n x)) [
@@ -112,10 +155,12 @@ rates_stay_rates h H j x range before =
     subst IsRate (sym (last_value-push rate (house_stay h j).rate H x))
     (elim (cases_Option (reprice_rate j x.entry.act)) [
       | inl none ↦ let e : rate_of h H j ≡ unwrap_or (rate x) (rate_of h H j) = ap (λ o. unwrap_or o (rate_of h H j)) (sym none) in subst IsRate e before
-      | inr (r, some) ↦ let e : r ≡ unwrap_or (rate x) (rate_of h H j) = ap (λ o. unwrap_or o (rate_of h H j)) (sym some) in subst IsRate e (rate_in_range h j x.entry.act r range some)
+      | inr (r, some) ↦ let e : r ≡ unwrap_or (rate x) (rate_of h H j) = ap (λ o. unwrap_or o (rate_of h H j)) (sym some) in
+          subst IsRate e (rate_in_range h j x.entry.act r range some)
     ])
 
-counts_stay_small : (h : Inn) (j d : ℕ) (H : History) (x : Line) → IsTrue (is_in_range h x.entry.act) → last_value (λ (y : Line). reforecast_count j y.entry.act) d H ≤ MOST_FORECAST →
+counts_stay_small : (h : Inn) (j d : ℕ) (H : History) (x : Line) → IsTrue (is_in_range h x.entry.act) →
+    last_value (λ (y : Line). reforecast_count j y.entry.act) d H ≤ MOST_FORECAST →
     last_value (λ (y : Line). reforecast_count j y.entry.act) d (H ++ x ∷ []) ≤ MOST_FORECAST
 counts_stay_small h j d H x range before =
     let count : Line → Option ℕ = λ y. reforecast_count j y.entry.act in
@@ -142,7 +187,7 @@ sound_at h H n is legal within = at_each_position h (IsSound h) (sound_at_start 
 pub units_stay_small : (h : Inn) (H : History) (n : ℕ) → IsHouse h → IsSound h H → n < length h.rooms → units_left_at h H n ≤ MOST_UNITS
 units_stay_small h H n is sound g =
     let unit = unit_is_small h.limits.unit is.unit in
-    let left : rooms_left_at h H n ≤ 10000 = omega (arith, sound.rooms n g) in
+    let left : rooms_left_at h H n ≤ MOST_ROOMS = omega (arith, sound.rooms n g) in
     omega (arith, mul-le-mul unit.1 left)
 
 pub keeps_limits : (h : Inn) (H : History) → IsHouse h → IsSound h H → KeepsLimits h H
@@ -156,7 +201,8 @@ keeps_limits h H is sound =
         some_night = omega (arith, is.instance.some_night, nights);
         nights = omega (arith, is.instance.nights, nights);
         stays = omega (arith, is.instance.stays, stays);
-        rooms = λ n d g. let e = get_or-map-range_with_len (units_left_at h H) 0 (length h.rooms) n n d (omega (arith, nights)) (omega arith) in omega (arith, e, units_stay_small h H n is sound (omega (arith, nights)));
+        rooms = λ n d g. let e = get_or-map-range_with_len (units_left_at h H) 0 (length h.rooms) n n d (omega (arith, nights)) (omega arith) in
+            omega (arith, e, units_stay_small h H n is sound (omega (arith, nights)));
         spans = λ j d g. let within : j < length h.stays = omega (arith, stays) in rw (stay_is j d within, nights) (is.instance.spans j no_stay within);
         rates = λ j d g. let within : j < length h.stays = omega (arith, stays) in rw (stay_is j d within) (sound.rates j within);
         forecasts = λ j d g. let within : j < length h.stays = omega (arith, stays) in rw (stay_is j d within) (omega (arith, sound.counts j within));

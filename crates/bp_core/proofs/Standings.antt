@@ -1,5 +1,38 @@
 -- What a standing says of what a caller may do.
-use Rattle.std.proofs.Common.{◌≡◌, ℕ, zero, suc, ◌+◌, ◌-◌, ◌<◌, ◌≤◌, refl, ap, sym, subst, ◌∙◌, arith, Bool, true, false, not, min, nat_le, cond, ◌==◌, ◌&&◌, ◌||◌, IsTrue, [], ◌∷◌, ◌++◌, length, count_by, inl, inr}
+use Rattle.std.proofs.Common.{
+  ◌≡◌,
+  ℕ,
+  zero,
+  suc,
+  ◌+◌,
+  ◌-◌,
+  ◌<◌,
+  ◌≤◌,
+  refl,
+  ap,
+  sym,
+  subst,
+  ◌∙◌,
+  arith,
+  Bool,
+  true,
+  false,
+  not,
+  min,
+  nat_le,
+  cond,
+  ◌==◌,
+  ◌&&◌,
+  ◌||◌,
+  IsTrue,
+  [],
+  ◌∷◌,
+  ◌++◌,
+  length,
+  count_by,
+  inl,
+  inr,
+}
 use Rattle.std.specs.List.{list_any, range_with_len}
 use Rattle.std.proofs.Math.Seq.{take-length}
 use Rattle.std.proofs.lemmas.Bool.{cases_Bool, and_parts, and_from, and_left, eqb-true, eq-eqb, ne_eqb, le-leb, lt-leb, leb-true, leb-false, or_cases}
@@ -8,7 +41,7 @@ use Rattle.bp_types.specs.House.{Inn}
 use Rattle.bp_core.specs.declared.line.Act.{Act}
 use Rattle.bp_core.specs.declared.line.Act.TheVariants.{Do, Publish, Enrol, Leave}
 use Rattle.bp_core.specs.Lines.{History, is_by}
-use Rattle.bp_core.specs.Callers.{is_enrol, may_act, may_enrol, may_log, has_entry, has_enrolled, has_left, is_leave_by, left_of}
+use Rattle.bp_core.specs.Callers.{greatest_caller, is_enrol, may_act, may_enrol, may_log, has_entry, has_enrolled, has_left, is_leave_by, left_of}
 use Rattle.bp_core.specs.Legal.{IsLegal}
 use Rattle.bp_core.specs.Roll.{is_new, is_present, is_gone}
 use Rattle.bp_core.specs.Keeping.{standing_by}
@@ -20,7 +53,7 @@ use Rattle.bp_core.proofs.Pushes.{any-push}
 pub opener_may : (H : History) (caller : ℕ) → caller ≡ 0 → true ≡ may_act H caller
 opener_may H caller e = sym (ap (λ b. b || (has_enrolled H caller && not (has_left H caller))) (eq-eqb caller 0 e))
 
-pub far_may_not : (h : Inn) (H : History) (caller : ℕ) → IsLegal h H → 63 < caller → false ≡ may_act H caller
+pub far_may_not : (h : Inn) (H : History) (caller : ℕ) → IsLegal h H → greatest_caller < caller → false ≡ may_act H caller
 far_may_not h H caller legal far =
     elim (cases_Bool (may_act H caller)) [
       | inr no_act ↦ sym no_act
@@ -31,7 +64,8 @@ far_may_not h H caller legal far =
     ]
 
 pub present_may : (H : History) (caller : ℕ) → (caller ≡ 0 → ⊥) → is_present (standing_by (has_enrolled H caller) (has_left H caller)) ≡ may_act H caller
-present_may H caller ne = go (has_enrolled H caller) (has_left H caller) ∙ sym (ap (λ b. b || (has_enrolled H caller && not (has_left H caller))) (ne_eqb caller 0 ne))
+present_may H caller ne = go (has_enrolled H caller) (has_left H caller) ∙
+    sym (ap (λ b. b || (has_enrolled H caller && not (has_left H caller))) (ne_eqb caller 0 ne))
   where
     go : (e l : Bool) → is_present (standing_by e l) ≡ (e && not l)
     go false false = refl
@@ -45,7 +79,8 @@ gone_has_left true false = refl
 gone_has_left false true = refl
 gone_has_left true true = refl
 
-enrolled_first : (H : History) (by : ℕ) (act : Act) (caller : ℕ) → IsTrue (may_log H by act) → (caller ≡ 0 → ⊥) → (by == caller) ≡ true → (has_enrolled H caller || ((by == caller) && is_enrol act)) ≡ true
+enrolled_first : (H : History) (by : ℕ) (act : Act) (caller : ℕ) → IsTrue (may_log H by act) → (caller ≡ 0 → ⊥) → (by == caller) ≡ true →
+    (has_enrolled H caller || ((by == caller) && is_enrol act)) ≡ true
 enrolled_first H by act caller may ne same =
     let e : by ≡ caller = eqb-true _ _ same in
     go act may e
@@ -70,8 +105,10 @@ entry_is_enrolled h H legal =
     let entry : has_entry (G ++ x ∷ []) caller ≡ (has_entry G caller || (x.entry.caller == caller)) = any-push (is_by caller) G x in
     let enrolled = enrolled_by G x.entry.caller x.entry.act x.entry.reply x.certificate caller in
     elim (cases_Bool (x.entry.caller == caller)) [
-      | inl same ↦ entry ∙ ap (λ b. has_entry G caller || b) same ∙ did_true (has_entry G caller) ∙ sym (enrolled ∙ enrolled_first G x.entry.caller x.entry.act caller line.caller ne same)
-      | inr other ↦ entry ∙ ap (λ b. has_entry G caller || b) other ∙ did_old (has_entry G caller) ∙ before caller ne ∙ sym (enrolled ∙ ap (λ b. has_enrolled G caller || (b && is_enrol x.entry.act)) other ∙ did_old (has_enrolled G caller))
+      | inl same ↦ entry ∙ ap (λ b. has_entry G caller || b) same ∙ did_true (has_entry G caller) ∙
+          sym (enrolled ∙ enrolled_first G x.entry.caller x.entry.act caller line.caller ne same)
+      | inr other ↦ entry ∙ ap (λ b. has_entry G caller || b) other ∙ did_old (has_entry G caller) ∙ before caller ne ∙
+          sym (enrolled ∙ ap (λ b. has_enrolled G caller || (b && is_enrol x.entry.act)) other ∙ did_old (has_enrolled G caller))
     ]) H legal (length H) (omega arith))
 
 left_has_entry : (H : History) (caller : ℕ) → has_left H caller ≡ true → has_entry H caller ≡ true
@@ -82,7 +119,8 @@ left_has_entry (x ∷ H) caller left =
       | inr later ↦ ap (λ b. is_by caller x || b) (left_has_entry H caller later) ∙ did_true (is_by caller x)
     ]
 
-pub new_may_enrol : (h : Inn) (H : History) (caller : ℕ) → IsLegal h H → 1 ≤ caller → caller ≤ 63 → is_new (standing_by (has_enrolled H caller) (has_left H caller)) ≡ may_enrol H caller
+pub new_may_enrol : (h : Inn) (H : History) (caller : ℕ) → IsLegal h H → 1 ≤ caller → caller ≤ greatest_caller →
+    is_new (standing_by (has_enrolled H caller) (has_left H caller)) ≡ may_enrol H caller
 new_may_enrol h H caller legal from_one small =
     let entry = entry_is_enrolled h H legal caller (λ e. omega arith) in
     let numbers_fit = and_from _ _ (le-leb _ _ from_one) (le-leb _ _ small) in
@@ -106,10 +144,10 @@ new_may_enrol h H caller legal from_one small =
 pub opener_does_not_enrol : (H : History) (caller : ℕ) → caller ≡ 0 → false ≡ may_enrol H caller
 opener_does_not_enrol H caller e = sym (and_left _ _ (and_left _ _ (lt-leb 1 caller (omega arith))))
 
-pub far_does_not_enrol : (H : History) (caller : ℕ) → 63 < caller → false ≡ may_enrol H caller
-far_does_not_enrol H caller far = sym (and_left _ _ (go (lt-leb caller 63 far)))
+pub far_does_not_enrol : (H : History) (caller : ℕ) → greatest_caller < caller → false ≡ may_enrol H caller
+far_does_not_enrol H caller far = sym (and_left _ _ (go (lt-leb caller greatest_caller far)))
   where
-    go : nat_le caller 63 ≡ false → (nat_le 1 caller && nat_le caller 63) ≡ false
+    go : nat_le caller greatest_caller ≡ false → (nat_le 1 caller && nat_le caller greatest_caller) ≡ false
     go f = ap (λ b. nat_le 1 caller && b) f ∙ and_false (nat_le 1 caller)
 
 -- one caller more
@@ -117,7 +155,11 @@ pub left_more : (H : History) (n : ℕ) → left_of H (n + 1) ≡ left_of H n + 
 left_more H n =
     let size : n + 1 ≡ suc n = omega arith in
     let place : 1 + n ≡ n + 1 = omega arith in
-    ap (λ k. count_by (has_left H) (range_with_len 1 k)) size ∙ ap (count_by (has_left H)) (range-more 1 n) ∙ sum_by-append (λ k. cond (has_left H k) 1 0) (range_with_len 1 n) ((1 + n) ∷ []) ∙ (let z : count_by (has_left H) ((1 + n) ∷ []) ≡ cond (has_left H (n + 1)) 1 0 = (let o : 0 + cond (has_left H (1 + n)) 1 0 ≡ cond (has_left H (1 + n)) 1 0 = omega arith in o ∙ ap (λ k. cond {A = ℕ} (has_left H k) 1 0) place) in ap (λ k. left_of H n + k) z)
+    ap (λ k. count_by (has_left H) (range_with_len 1 k)) size ∙ ap (count_by (has_left H)) (range-more 1 n) ∙
+    sum_by-append (λ k. cond (has_left H k) 1 0) (range_with_len 1 n) ((1 + n) ∷ []) ∙
+    (let z : count_by (has_left H) ((1 + n) ∷ []) ≡ cond (has_left H (n + 1)) 1 0 =
+    (let o : 0 + cond (has_left H (1 + n)) 1 0 ≡ cond (has_left H (1 + n)) 1 0 = omega arith in o ∙ ap (λ k. cond {A = ℕ} (has_left H k) 1 0) place) in
+    ap (λ k. left_of H n + k) z)
 
 pub left_step : (H : History) (c : ℕ) → 1 ≤ c → left_of H (c + 1 - 1) ≡ left_of H (c - 1) + cond (has_left H c) 1 0
 left_step H c some =
@@ -125,28 +167,32 @@ left_step H c some =
     let here : c - 1 + 1 ≡ c = omega arith in
     ap (left_of H) same ∙ left_more H (c - 1) ∙ ap (λ k. left_of H (c - 1) + cond (has_left H k) 1 0) here
 
--- whoever has left has a number up to 63
-far_has_not_left : (h : Inn) (H : History) (c : ℕ) → IsLegal h H → 63 < c → has_left H c ≡ false
+-- whoever has left has a number up to the greatest
+far_has_not_left : (h : Inn) (H : History) (c : ℕ) → IsLegal h H → greatest_caller < c → has_left H c ≡ false
 far_has_not_left h H c legal far =
     elim (cases_Bool (has_left H c)) [
       | inr stays ↦ stays
-      | inl left ↦ absurd (let small = (counted_at h H legal).numbered c (sym (entry_is_enrolled h H legal c (λ e. omega (arith, far, e))) ∙ left_has_entry H c left) in omega (arith, far, small))
+      | inl left ↦ absurd (let small =
+          (counted_at h H legal).numbered c (sym (entry_is_enrolled h H legal c (λ e. omega (arith, far, e))) ∙ left_has_entry H c left) in
+          omega (arith, far, small))
     ]
 
 -- of more callers no more have left
-left_past_all : (h : Inn) (H : History) → IsLegal h H → (k : ℕ) → left_of H (63 + k) ≡ left_of H 63
+left_past_all : (h : Inn) (H : History) → IsLegal h H → (k : ℕ) → left_of H (greatest_caller + k) ≡ left_of H greatest_caller
 left_past_all h H legal zero = refl
 left_past_all h H legal (suc k) =
-    let size : 63 + suc k ≡ 63 + k + 1 = omega arith in
-    let none = ap (λ (b : Bool). cond {A = ℕ} b 1 0) (far_has_not_left h H (63 + k + 1) legal (omega arith)) in
-    let more = left_more H (63 + k) in
-    ap (left_of H) size ∙ (let o : left_of H (63 + k + 1) ≡ left_of H (63 + k) = omega (arith, more, none) in o) ∙ left_past_all h H legal k
+    let size : greatest_caller + suc k ≡ greatest_caller + k + 1 = omega arith in
+    let none = ap (λ (b : Bool). cond {A = ℕ} b 1 0) (far_has_not_left h H (greatest_caller + k + 1) legal (omega arith)) in
+    let more = left_more H (greatest_caller + k) in
+    ap (left_of H) size ∙ (let o : left_of H (greatest_caller + k + 1) ≡ left_of H (greatest_caller + k) = omega (arith, more, none) in o) ∙
+    left_past_all h H legal k
 
--- so the callers up to 63 are all that is looked at
-pub left_of_fewer : (h : Inn) (H : History) (m n : ℕ) → IsLegal h H → m ≡ min n 63 → left_of H m ≡ left_of H n
+-- so the callers up to the greatest number are all that is looked at
+pub left_of_fewer : (h : Inn) (H : History) (m n : ℕ) → IsLegal h H → m ≡ min n greatest_caller → left_of H m ≡ left_of H n
 left_of_fewer h H m n legal least =
-    elim (cases_Bool (nat_le n 63)) [
-      | inl few ↦ (let below = leb-true n 63 few in let same : m ≡ n = omega (arith, least, below) in ap (left_of H) same)
-      | inr many ↦ (let above = leb-false n 63 many in let same : m ≡ 63 = omega (arith, least, above) in let size : 63 + (n - 63) ≡ n = omega (arith, above) in
-          ap (left_of H) same ∙ sym (left_past_all h H legal (n - 63)) ∙ ap (left_of H) size)
+    elim (cases_Bool (nat_le n greatest_caller)) [
+      | inl few ↦ (let below = leb-true n greatest_caller few in let same : m ≡ n = omega (arith, least, below) in ap (left_of H) same)
+      | inr many ↦ (let above = leb-false n greatest_caller many in let same : m ≡ greatest_caller = omega (arith, least, above) in
+          let size : greatest_caller + (n - greatest_caller) ≡ n = omega (arith, above) in
+          ap (left_of H) same ∙ sym (left_past_all h H legal (n - greatest_caller)) ∙ ap (left_of H) size)
     ]

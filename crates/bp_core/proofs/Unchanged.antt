@@ -1,5 +1,39 @@
 -- Lines that are no change leave the instance.
-use Rattle.std.proofs.Common.{◌≡◌, ℕ, zero, suc, ◌+◌, ◌*◌, ◌-◌, ◌<◌, ◌≤◌, refl, ap, sym, ◌∙◌, arith, Bool, false, cond, ◌==◌, ◌&&◌, List, [], ◌∷◌, ◌++◌, length, map, take, count_by, Option, None, slice_index, unwrap_or, inl, inr}
+use Rattle.std.proofs.Common.{
+  ◌≡◌,
+  ℕ,
+  zero,
+  suc,
+  ◌+◌,
+  ◌*◌,
+  ◌-◌,
+  ◌<◌,
+  ◌≤◌,
+  refl,
+  ap,
+  sym,
+  ◌∙◌,
+  arith,
+  Bool,
+  false,
+  cond,
+  ◌==◌,
+  ◌&&◌,
+  List,
+  [],
+  ◌∷◌,
+  ◌++◌,
+  length,
+  map,
+  take,
+  count_by,
+  Option,
+  None,
+  slice_index,
+  unwrap_or,
+  inl,
+  inr,
+}
 use Rattle.std.specs.List.{range_with_len}
 use Rattle.std.proofs.Math.Seq.{take-length}
 use Rattle.std.proofs.lemmas.Bool.{cases_Bool}
@@ -15,7 +49,19 @@ use Rattle.bp_core.specs.declared.line.Reply.{Reply}
 use Rattle.bp_core.specs.declared.line.Line.{Line}
 use Rattle.bp_core.specs.Lines.{History, line_at, is_done, is_group_accepted}
 use Rattle.bp_core.specs.Changes.{is_change, act_changes, changes_after}
-use Rattle.bp_core.specs.Instance.{resized_rooms, rooms_at, sold_at, reforecast_count, forecast_of, reprice_rate, rate_of, span_of, stay_now, units_left_at, instance_of}
+use Rattle.bp_core.specs.Instance.{
+  resized_rooms,
+  rooms_at,
+  sold_at,
+  reforecast_count,
+  forecast_of,
+  reprice_rate,
+  rate_of,
+  span_of,
+  stay_now,
+  units_left_at,
+  instance_of,
+}
 use Rattle.bp_core.specs.Log.{changes_in}
 use Rattle.bp_core.proofs.Counts.{and_false}
 use Rattle.bp_core.proofs.Cases.{cond_same}
@@ -32,7 +78,8 @@ pub record IsStill (x : Line) : Type 0 where
   pub no_count : (j : ℕ) → reforecast_count j x.entry.act ≡ None
   pub no_rate : (j : ℕ) → reprice_rate j x.entry.act ≡ None
 
-still : (caller : ℕ) (act : Act) (reply : Reply) (certificate : Option Claim) → act_changes act reply ≡ false → IsStill (record { entry = record { caller = caller; act = act; reply = reply }; certificate = certificate })
+still : (caller : ℕ) (act : Act) (reply : Reply) (certificate : Option Claim) → act_changes act reply ≡ false →
+    IsStill (record { entry = record { caller = caller; act = act; reply = reply }; certificate = certificate })
 still caller (Do (Book stay)) reply certificate silent = absurd (cc)
 still caller (Do (Cancel nth)) reply certificate silent = record {
   quiet = record {
@@ -101,13 +148,21 @@ still caller Leave reply certificate silent = record {
 pub instance_kept : (h : Inn) (H : History) (x : Line) → is_change x ≡ false → instance_of h H ≡ instance_of h (H ++ x ∷ [])
 instance_kept h H x silent =
     let s = still x.entry.caller x.entry.act x.entry.reply x.certificate silent in
-    let rooms : (n : ℕ) → rooms_at h H n ≡ rooms_at h (H ++ x ∷ []) n = λ n. sym (last_value-push (resized_rooms n) (slice_index h.rooms n) H x ∙ ap (λ o. unwrap_or o (rooms_at h H n)) (s.quiet.no_resize n)) in
-    let sold : (n : ℕ) → sold_at h H n ≡ sold_at h (H ++ x ∷ []) n = λ n. sym (sold_at-push h H x n s.quiet.no_cancel ∙ rw (s.quiet.no_book, s.quiet.no_group n) (omega arith)) in
-    let left : (n : ℕ) → units_left_at h H n ≡ units_left_at h (H ++ x ∷ []) n = λ n. ap (λ r. h.limits.unit * (r - sold_at h H n)) (rooms n) ∙ ap (λ t. h.limits.unit * (rooms_at h (H ++ x ∷ []) n - t)) (sold n) in
-    let stay : (j : ℕ) → stay_now h H j ≡ stay_now h (H ++ x ∷ []) j = λ j. ap (λ r. record { span = span_of h j; rate = r; forecast = forecast_of h H j }) (rate_kept h H x j (s.no_rate j)) ∙ ap (λ f. record { span = span_of h j; rate = rate_of h (H ++ x ∷ []) j; forecast = f }) (quiet_forecast h H x j s.quiet (s.no_count j)) in
+    let rooms : (n : ℕ) → rooms_at h H n ≡ rooms_at h (H ++ x ∷ []) n =
+    λ n. sym (last_value-push (resized_rooms n) (slice_index h.rooms n) H x ∙ ap (λ o. unwrap_or o (rooms_at h H n)) (s.quiet.no_resize n)) in
+    let sold : (n : ℕ) → sold_at h H n ≡ sold_at h (H ++ x ∷ []) n =
+    λ n. sym (sold_at-push h H x n s.quiet.no_cancel ∙ rw (s.quiet.no_book, s.quiet.no_group n) (omega arith)) in
+    let left : (n : ℕ) → units_left_at h H n ≡ units_left_at h (H ++ x ∷ []) n = λ n. ap (λ r. h.limits.unit * (r - sold_at h H n)) (rooms n) ∙
+    ap (λ t. h.limits.unit * (rooms_at h (H ++ x ∷ []) n - t)) (sold n) in
+    let stay : (j : ℕ) → stay_now h H j ≡ stay_now h (H ++ x ∷ []) j =
+    λ j. ap (λ r. record { span = span_of h j; rate = r; forecast = forecast_of h H j }) (rate_kept h H x j (s.no_rate j)) ∙
+    ap (λ f. record { span = span_of h j; rate = rate_of h (H ++ x ∷ []) j; forecast = f }) (quiet_forecast h H x j s.quiet (s.no_count j)) in
     let all_rooms = numbers_same (units_left_at h H) (units_left_at h (H ++ x ∷ [])) (length h.rooms) (λ n g. left n) in
-    let all_stays = fill_by_all (stay_now h (H ++ x ∷ [])) (map (stay_now h H) (range_with_len 0 (length h.stays))) (length h.stays) no_stay (length-map-range_with_len (stay_now h H) 0 (length h.stays)) (λ j g. get_or-map-range_with_len (stay_now h H) 0 (length h.stays) j j no_stay g (omega arith) ∙ stay j) in
-    ap (λ (r : List ℕ). record { rooms = r; stays = (instance_of h H).stays }) all_rooms ∙ ap (λ (t : List Stay). record { rooms = (instance_of h (H ++ x ∷ [])).rooms; stays = t }) all_stays
+    let all_stays = fill_by_all (stay_now h (H ++ x ∷ [])) (map (stay_now h H) (range_with_len 0 (length h.stays))) (length h.stays) no_stay
+    (length-map-range_with_len (stay_now h H) 0 (length h.stays))
+    (λ j g. get_or-map-range_with_len (stay_now h H) 0 (length h.stays) j j no_stay g (omega arith) ∙ stay j) in
+    ap (λ (r : List ℕ). record { rooms = r; stays = (instance_of h H).stays }) all_rooms ∙
+    ap (λ (t : List Stay). record { rooms = (instance_of h (H ++ x ∷ [])).rooms; stays = t }) all_stays
 
 changes_in-more : (H : History) (k : ℕ) → k < length H → changes_in H (k + 1) ≡ changes_in H k + cond (is_change (line_at H k)) 1 0
 changes_in-more H k within = ap (count_by is_change) (take-more H k within) ∙ count-push is_change (take k H) (line_at H k)
@@ -127,4 +182,5 @@ instance_stays h H (suc d) p at same =
     instance_kept h (take p H) (line_at H p) silent ∙ ap (instance_of h) (sym (take-more H p (omega arith))) ∙ instance_stays h H d (p + 1) (omega arith) next
 
 pub instance_unchanged : (h : Inn) (H : History) (p : ℕ) → p ≤ length H → changes_after H p ≡ 0 → instance_of h (take p H) ≡ instance_of h H
-instance_unchanged h H p within none = instance_stays h H (length H - p) p (omega arith) (let e = changes_between-in H p (length H) within in omega (arith, e, none))
+instance_unchanged h H p within none =
+    instance_stays h H (length H - p) p (omega arith) (let e = changes_between-in H p (length H) within in omega (arith, e, none))

@@ -1,5 +1,45 @@
 -- Where the vectors of a history stand.
-use Rattle.std.proofs.Common.{◌≡◌, ℕ, suc, zero, ◌+◌, ◌-◌, ◌<◌, ◌≤◌, ◌==◌, Bool, true, false, ◌&&◌, ◌||◌, nat_lt, nat_le, IsTrue, List, [], ◌∷◌, ◌++◌, length, take, drop, count_by, slice_get, Option, Some, None, is_some, unwrap_or, refl, sym, ap, subst, ◌∙◌, arith, length-append, take-append-drop}
+use Rattle.std.proofs.Common.{
+  ◌≡◌,
+  ℕ,
+  suc,
+  zero,
+  ◌+◌,
+  ◌-◌,
+  ◌<◌,
+  ◌≤◌,
+  ◌==◌,
+  Bool,
+  true,
+  false,
+  ◌&&◌,
+  ◌||◌,
+  nat_lt,
+  nat_le,
+  IsTrue,
+  List,
+  [],
+  ◌∷◌,
+  ◌++◌,
+  length,
+  take,
+  drop,
+  count_by,
+  slice_get,
+  Option,
+  Some,
+  None,
+  is_some,
+  unwrap_or,
+  refl,
+  sym,
+  ap,
+  subst,
+  ◌∙◌,
+  arith,
+  length-append,
+  take-append-drop,
+}
 use Rattle.std.specs.List.{list_any, cons_option}
 use Rattle.std.specs.Option.{option_map}
 use Rattle.std.proofs.Math.Seq.{take-length, drop-cons}
@@ -38,7 +78,8 @@ kept_alone (x ∷ rest) d none =
     let both = either_off (is_publish x) (list_any is_publish rest) none in
     ap (λ e. last_value (λ (y : Line). published_position y.entry.act) e rest) (no_value (published_position x.entry.act) d both.0) ∙ kept_alone rest d both.1
 
-kept_position : (part rest : History) (d : ℕ) → list_any is_publish rest ≡ false → last_value (λ (x : Line). published_position x.entry.act) d (part ++ rest) ≡ last_value (λ (x : Line). published_position x.entry.act) d part
+kept_position : (part rest : History) (d : ℕ) → list_any is_publish rest ≡ false →
+    last_value (λ (x : Line). published_position x.entry.act) d (part ++ rest) ≡ last_value (λ (x : Line). published_position x.entry.act) d part
 kept_position [] rest d none = kept_alone rest d none
 kept_position (x ∷ part) rest d none = kept_position part rest (unwrap_or (published_position x.entry.act) d) none
 
@@ -72,11 +113,13 @@ turns_settle = record {
   lasts = λ H rest t within followed. any_behind H rest t within ∙ or_first (list_any is_publish (drop t H)) (list_any is_publish rest) followed;
   unchanged = λ H lead t within few many.
       vector_between (take t H) (drop t H) lead many (subst (λ G. changes_after G (last_position G) < lead) (sym (take-append-drop t H)) few);
-  published = λ H x t within is. any_behind H (x ∷ []) t within ∙ or_second (list_any is_publish (drop t H)) (list_any is_publish (x ∷ [])) (or_first (is_publish x) false is);
+  published = λ H x t within is. any_behind H (x ∷ []) t within ∙
+      or_second (list_any is_publish (drop t H)) (list_any is_publish (x ∷ [])) (or_first (is_publish x) false is);
 }
 
 -- a vector is for a position so far
-so_far : (n position changes : ℕ) (by : Bool) → IsTrue (nat_lt 0 n || (by && (position == 0))) → IsTrue ((n == 0) || (nat_le position n && nat_le 1 changes)) → position ≤ n
+so_far : (n position changes : ℕ) (by : Bool) → IsTrue (nat_lt 0 n || (by && (position == 0))) →
+    IsTrue ((n == 0) || (nat_le position n && nat_le 1 changes)) → position ≤ n
 so_far n position changes true opening newer = grind (arith, nat_tests)
 so_far n position changes false opening newer = grind (arith, nat_tests)
 
@@ -94,7 +137,8 @@ next_within h G x le legal =
     omega (arith, e, go, l)
   where
     by_act : (a : Act) → x.entry.act ≡ a → unwrap_or (published_position x.entry.act) (last_position G) ≤ length G + 1
-    by_act (Publish position) is = subst (λ (a : Act). unwrap_or (published_position a) (last_position G) ≤ length G + 1) (sym is) (omega (arith, position_so_far h G x position legal is))
+    by_act (Publish position) is =
+        subst (λ (a : Act). unwrap_or (published_position a) (last_position G) ≤ length G + 1) (sym is) (omega (arith, position_so_far h G x position legal is))
     by_act (Do command) is = subst (λ (a : Act). unwrap_or (published_position a) (last_position G) ≤ length G + 1) (sym is) (omega (arith, le))
     by_act Enrol is = subst (λ (a : Act). unwrap_or (published_position a) (last_position G) ≤ length G + 1) (sym is) (omega (arith, le))
     by_act Leave is = subst (λ (a : Act). unwrap_or (published_position a) (last_position G) ≤ length G + 1) (sym is) (omega (arith, le))
@@ -126,7 +170,8 @@ splits : (H : History) (i : ℕ) → i < length H → H ≡ take i H ++ line_at 
 splits H i within = sym (take-append-drop i H) ∙ ap (λ G. take i H ++ G) (drop-cons H i no_line within)
 
 -- the board of the vector at a place has the certificate of its line
-pub vector_at : (h : Inn) (H : History) (i position : ℕ) (k : Claim) → IsLegal h H → i < length H → (line_at H i).entry.act ≡ Publish position → (line_at H i).certificate ≡ Some k →
+pub vector_at : (h : Inn) (H : History) (i position : ℕ) (k : Claim) → IsLegal h H → i < length H → (line_at H i).entry.act ≡ Publish position →
+    (line_at H i).certificate ≡ Some k →
     slice_get (boards H) (vectors (take i H)) ≡ Some (record { position = position; certificate = k })
 vector_at h H i position k legal within publishes certified =
     let x : Line = line_at H i in
@@ -135,5 +180,8 @@ vector_at h H i position k legal within publishes certified =
     ap (λ (o : Option Claim). option_map (λ (c : Claim). record { position = unwrap_or (published_position x.entry.act) 0; certificate = c }) o) certified
     ∙ ap (λ (a : Act). Some (record { position = unwrap_or (published_position a) 0; certificate = k })) publishes in
     let all : boards H ≡ boards (take i H) ++ board ∷ boards (drop (suc i) H) =
-    ap boards (splits H i within) ∙ filter_map-append posted (take i H) (x ∷ drop (suc i) H) ∙ ap (λ (o : Option Posted). boards (take i H) ++ cons_option o (boards (drop (suc i) H))) on in
-    ap (λ bs. slice_get bs (vectors (take i H))) all ∙ ap (slice_get (boards (take i H) ++ board ∷ boards (drop (suc i) H))) (sym (as_many h H i legal (omega arith))) ∙ get_middle (boards (take i H)) (boards (drop (suc i) H)) board
+    ap boards (splits H i within) ∙ filter_map-append posted (take i H) (x ∷ drop (suc i) H) ∙
+    ap (λ (o : Option Posted). boards (take i H) ++ cons_option o (boards (drop (suc i) H))) on in
+    ap (λ bs. slice_get bs (vectors (take i H))) all ∙
+    ap (slice_get (boards (take i H) ++ board ∷ boards (drop (suc i) H))) (sym (as_many h H i legal (omega arith))) ∙
+    get_middle (boards (take i H)) (boards (drop (suc i) H)) board

@@ -1,5 +1,25 @@
 -- What a call may ask of a book, and what is answered.
-use Rattle.std.specs.Prelude.{◌≡◌, ℕ, ◌*◌, ◌≤◌, Bool, ◌==◌, nat_lt, nat_le, if◌then◌else◌, IsTrue, [], ◌∷◌, ◌++◌, length, Option, Some, None, is_some, MatchOption}
+use Rattle.std.specs.Prelude.{
+  ◌≡◌,
+  ℕ,
+  ◌*◌,
+  ◌≤◌,
+  Bool,
+  ◌==◌,
+  nat_lt,
+  nat_le,
+  if◌then◌else◌,
+  IsTrue,
+  [],
+  ◌∷◌,
+  ◌++◌,
+  length,
+  Option,
+  Some,
+  None,
+  is_some,
+  MatchOption,
+}
 use Rattle.std.specs.Arc.{arc_value}
 use Rattle.bp_types.specs.declared.command.Command.{Command}
 use Rattle.bp_types.specs.declared.command.Command.TheVariants.{Book, Group}

@@ -11,7 +11,20 @@ use Rattle.bp_types.specs.Spans.{first_short}
 use Rattle.bp_core.specs.declared.line.Act.{Act}
 use Rattle.bp_core.specs.declared.line.Act.TheVariants.{Do, Publish, Enrol, Leave}
 use Rattle.bp_core.specs.declared.line.Reply.{Reply}
-use Rattle.bp_core.specs.declared.line.Reply.TheVariants.{Accepted, TooLow, NoRoom, Cancelled, NotBooked, AlreadyCancelled, Done, BelowSold, GroupAccepted, GroupTooLow, GroupNoRoom, Vector}
+use Rattle.bp_core.specs.declared.line.Reply.TheVariants.{
+  Accepted,
+  TooLow,
+  NoRoom,
+  Cancelled,
+  NotBooked,
+  AlreadyCancelled,
+  Done,
+  BelowSold,
+  GroupAccepted,
+  GroupTooLow,
+  GroupNoRoom,
+  Vector,
+}
 use Rattle.bp_core.specs.declared.line.Line.{Line}
 use Rattle.bp_core.specs.Lines.{History, is_accepted, is_cancellation, nth_book, vectors, last_number, last_prices}
 use Rattle.bp_core.specs.Instance.{span_of, rate_of, sold_at, instance_of, rooms_left_at}

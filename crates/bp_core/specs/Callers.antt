@@ -42,7 +42,7 @@ has_left H caller = list_any (is_leave_by caller) H
 abbrev pub may_act : History → ℕ → Bool
 may_act H caller = (caller == 0) || (has_enrolled H caller && not (has_left H caller))
 
--- a number from 1 to 63 that has no entry
+-- a number from 1 to the greatest that has no entry
 abbrev pub may_enrol : History → ℕ → Bool
 may_enrol H caller = is_from_one greatest_caller caller && not (has_entry H caller)
 

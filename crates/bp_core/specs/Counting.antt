@@ -26,7 +26,8 @@ JustThese = (lines whole : History) → HasInOrder lines whole → ((n : ℕ) �
 
 -- where so many changes stood after the last vector and later fewer do, a vector was published in between
 abbrev pub VectorBetween : Type 0
-VectorBetween = (part rest : History) (lead : ℕ) → lead ≤ changes_after part (last_position part) → changes_after (part ++ rest) (last_position (part ++ rest)) < lead → list_any is_publish rest ≡ true
+VectorBetween = (part rest : History) (lead : ℕ) → lead ≤ changes_after part (last_position part) →
+    changes_after (part ++ rest) (last_position (part ++ rest)) < lead → list_any is_publish rest ≡ true
 
 -- a vector stands at a place from a turn's length on
 abbrev pub IsFollowed : History → ℕ → Type 0
@@ -37,7 +38,8 @@ pub record TurnsSettle : Type 0 where
   -- it lasts
   pub lasts : (H rest : History) (t : ℕ) → t ≤ length H → IsFollowed H t → IsFollowed (H ++ rest) t
   -- where fewer changes stand now, each turn so far that found as many is followed
-  pub unchanged : (H : History) (lead t : ℕ) → t ≤ length H → changes_after H (last_position H) < lead → lead ≤ changes_after (take t H) (last_position (take t H)) → IsFollowed H t
+  pub unchanged : (H : History) (lead t : ℕ) → t ≤ length H → changes_after H (last_position H) < lead →
+      lead ≤ changes_after (take t H) (last_position (take t H)) → IsFollowed H t
   -- a vector of one's own follows all turns so far
   pub published : (H : History) (x : Line) (t : ℕ) → t ≤ length H → is_publish x ≡ true → IsFollowed (H ++ x ∷ []) t
 

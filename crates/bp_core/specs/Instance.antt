@@ -1,5 +1,27 @@
 -- The rooms, rooms sold, forecasts and rates after a history, and the linear program that they make.
-use Rattle.std.specs.Prelude.{ℕ, ◌+◌, ◌*◌, ◌-◌, Bool, not, ◌&&◌, ◌==◌, if◌then◌else◌, length, map, take, drop, count_by, slice_index, slice_index_or, Option, Some, None, is_some, unwrap_or}
+use Rattle.std.specs.Prelude.{
+  ℕ,
+  ◌+◌,
+  ◌*◌,
+  ◌-◌,
+  Bool,
+  not,
+  ◌&&◌,
+  ◌==◌,
+  if◌then◌else◌,
+  length,
+  map,
+  take,
+  drop,
+  count_by,
+  slice_index,
+  slice_index_or,
+  Option,
+  Some,
+  None,
+  is_some,
+  unwrap_or,
+}
 use Rattle.std.specs.List.{list_any, range_with_len, sum_by}
 use Rattle.bp_types.specs.declared.stay.Span.{Span}
 use Rattle.bp_types.specs.declared.stay.Stay.{Stay}
@@ -87,7 +109,8 @@ is_book_of j x = is_book x && (unwrap_or (booked_stay x.entry.act) 0 == j)
 -- the forecast of a stay: the last one set, less one stay for each Book since, and not below 0
 abbrev pub forecast_of : Inn → History → ℕ → ℕ
 forecast_of h H j =
-    last_value (λ (x : Line). reforecast_count j x.entry.act) (house_stay h j).forecast H - h.limits.unit * count_by (is_book_of j) (since (is_reforecast_of j) H)
+    last_value (λ (x : Line). reforecast_count j x.entry.act) (house_stay h j).forecast H - h.limits.unit * count_by (is_book_of j)
+    (since (is_reforecast_of j) H)
 
 -- the rate that a Reprice sets for a stay
 abbrev pub reprice_rate : ℕ → Act → Option ℕ

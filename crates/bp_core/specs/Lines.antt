@@ -1,5 +1,27 @@
 -- The lines of a history, oldest first, and what is asked of the whole list.
-use Rattle.std.specs.Prelude.{ℕ, ◌-◌, Bool, true, false, ◌&&◌, ◌==◌, if◌then◌else◌, List, [], ◌∷◌, filter, count_by, slice_index_or, slice_get, Option, Some, None, is_some, unwrap_or, option_and_then}
+use Rattle.std.specs.Prelude.{
+  ℕ,
+  ◌-◌,
+  Bool,
+  true,
+  false,
+  ◌&&◌,
+  ◌==◌,
+  if◌then◌else◌,
+  List,
+  [],
+  ◌∷◌,
+  filter,
+  count_by,
+  slice_index_or,
+  slice_get,
+  Option,
+  Some,
+  None,
+  is_some,
+  unwrap_or,
+  option_and_then,
+}
 use Rattle.std.specs.List.{list_any, filter_map}
 use Rattle.std.specs.Option.{option_map}
 use Rattle.bp_types.specs.declared.command.Command.{Command}

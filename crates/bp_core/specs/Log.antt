@@ -1,5 +1,26 @@
 -- Entries and boards as the lines of a history, with what each line changes.
-use Rattle.std.specs.Prelude.{◌≡◌, ℕ, ◌+◌, ◌-◌, Bool, if◌then◌else◌, List, [], ◌∷◌, length, map, take, drop, count_by, slice_get, slice_index_or, Option, Some, None, is_some}
+use Rattle.std.specs.Prelude.{
+  ◌≡◌,
+  ℕ,
+  ◌+◌,
+  ◌-◌,
+  Bool,
+  if◌then◌else◌,
+  List,
+  [],
+  ◌∷◌,
+  length,
+  map,
+  take,
+  drop,
+  count_by,
+  slice_get,
+  slice_index_or,
+  Option,
+  Some,
+  None,
+  is_some,
+}
 use Rattle.std.specs.List.{range_with_len, flat_map}
 use Rattle.std.specs.Option.{option_map}
 use Rattle.bp_types.specs.declared.change.Change.{Change}

@@ -1,4 +1,23 @@
-ghost use Rattle.std.specs.Prelude.{◌≡◌, ◌+◌, ◌<◌, ◌≤◌, ◌^◌, ◌++◌, ◌∷◌, [], Some, None, length, map, slice_get, vec_capacity, option_and_then, IfOk, IsTrue, MatchOption};
+ghost use Rattle.std.specs.Prelude.{
+  ◌≡◌,
+  ◌+◌,
+  ◌<◌,
+  ◌≤◌,
+  ◌^◌,
+  ◌++◌,
+  ◌∷◌,
+  [],
+  Some,
+  None,
+  length,
+  map,
+  slice_get,
+  vec_capacity,
+  option_and_then,
+  IfOk,
+  IsTrue,
+  MatchOption,
+};
 ghost use Rattle.std.specs.Option.{option_map};
 ghost use Rattle.std.specs.Arc.{arc_value};
 ghost use Rattle.bp_types.specs.declared.stay.Stay.{Stay};
@@ -8,7 +27,18 @@ ghost use Rattle.bp_types.specs.Changes.{Leads};
 ghost use Rattle.bp_types.specs.Claim.{IsCertificateOf};
 ghost use Rattle.bp_core.specs.declared.line.Line.{Line};
 ghost use Rattle.bp_board.specs.Posted.{Posted};
-ghost use Rattle.bp_core.specs.Lines.{published_position, is_accepted, has_given_up, commands, vectors, certificate_at, boards, last_number, last_position, last_prices};
+ghost use Rattle.bp_core.specs.Lines.{
+  published_position,
+  is_accepted,
+  has_given_up,
+  commands,
+  vectors,
+  certificate_at,
+  boards,
+  last_number,
+  last_position,
+  last_prices,
+};
 ghost use Rattle.bp_core.specs.Callers.{may_act, may_enrol, may_log, left_of};
 ghost use Rattle.bp_core.specs.Instance.{rooms_at, sold_at, forecast_of, rate_of, instance_at, rooms_left_at};
 ghost use Rattle.bp_core.specs.Changes.{changes_between, changes_after, deltas_between, resize_delta};
@@ -19,7 +49,17 @@ ghost use Rattle.bp_core.specs.Laws.{KeepsLimits};
 ghost use Rattle.bp_core.specs.Log.{published_number};
 ghost use Rattle.bp_core.specs.Roll.{was_given_up};
 ghost use Rattle.bp_core.specs.Held.{IsHeld};
-ghost use Rattle.bp_core.specs.Acting.{Diary, MayCall, MayDo, IsQuoteFor, IsQuoteRight, IsAnswered, IsDone, opening_line, plain_line};
+ghost use Rattle.bp_core.specs.Acting.{
+  Diary,
+  MayCall,
+  MayDo,
+  IsQuoteFor,
+  IsQuoteRight,
+  IsAnswered,
+  IsDone,
+  opening_line,
+  plain_line,
+};
 
 use crate::deltas::Deltas;
 use crate::log::Log;
@@ -505,7 +545,7 @@ impl Book {
         roll.is_present(caller)
     }
 
-    /// Whether a caller is one of 1 to 63, and has no entry yet.
+    /// Whether a caller is one of 1 to the greatest below `CALLERS`, and has no entry yet.
     pub fn may_enrol(&self, caller: u32) -> bool
         ensures { result ≡ may_enrol self.now.history caller }
     {
@@ -611,8 +651,10 @@ impl Book {
         ensures reached { (from ≤ result) × (result ≤ length self.now.history) }
         ensures moves { from < length self.now.history → from < result }
         ensures items { into.new.items ≡ deltas_between self.now.house self.now.history from result }
-        ensures leads { Leads (instance_at self.now.house self.now.history from) into.new.items (instance_at self.now.house self.now.history result) }
-        ensures full { result < length self.now.history → vec_capacity into.old < length (deltas_between self.now.house self.now.history from (result + 1)) }
+        ensures leads { Leads (instance_at self.now.house self.now.history from) into.new.items
+            (instance_at self.now.house self.now.history result) }
+        ensures full { result < length self.now.history →
+            vec_capacity into.old < length (deltas_between self.now.house self.now.history from (result + 1)) }
         ensures capacity { vec_capacity into.new ≡ vec_capacity into.old }
     {
         self.changes_until(from, self.log.len(), into)
@@ -627,8 +669,10 @@ impl Book {
         ensures reached { (from ≤ result) × (result ≤ until) }
         ensures moves { from < until → from < result }
         ensures items { into.new.items ≡ deltas_between self.now.house self.now.history from result }
-        ensures leads { Leads (instance_at self.now.house self.now.history from) into.new.items (instance_at self.now.house self.now.history result) }
-        ensures full { result < until → vec_capacity into.old < length (deltas_between self.now.house self.now.history from (result + 1)) }
+        ensures leads { Leads (instance_at self.now.house self.now.history from) into.new.items
+            (instance_at self.now.house self.now.history result) }
+        ensures full { result < until →
+            vec_capacity into.old < length (deltas_between self.now.house self.now.history from (result + 1)) }
         ensures capacity { vec_capacity into.new ≡ vec_capacity into.old }
     {
         self.log.fill(from, until, into)
@@ -667,7 +711,8 @@ fn published_number(entry: Option<Entry>) -> Option<u64>
 }
 
 fn certificate_of(board: Option<&Arc<Board>>) -> Option<&Certificate>
-    ensures { option_map (λ c. c.now) result ≡ option_map (λ (b : Posted). b.certificate) (option_map (λ b. arc_value b.now) board.entry) }
+    ensures { option_map (λ c. c.now) result ≡
+        option_map (λ (b : Posted). b.certificate) (option_map (λ b. arc_value b.now) board.entry) }
 {
     match board {
         Some(board) => Some(board.certificate()),
@@ -680,7 +725,13 @@ fn logged(log: &mut Log, caller: u32, act: Act, reply: Reply, deltas: Deltas) ->
     requires plain { published_position act ≡ None }
     requires room { length log.old.lines < log.old.line_room }
     ensures answer { result ≡ Answer.Logged reply }
-    ensures log { log.new ≡ record { lines = log.old.lines ++ plain_line caller act reply ∷ []; deltas = log.old.deltas ++ delta_list deltas ∷ []; line_room = log.old.line_room; board_room = log.old.board_room } }
+    ensures log { log.new ≡ record {
+      lines = log.old.lines ++ plain_line caller act reply ∷ [];
+      deltas =
+          log.old.deltas ++ delta_list deltas ∷ [];
+      line_room = log.old.line_room;
+      board_room = log.old.board_room;
+    } }
 {
     log.push(Entry { caller, act, reply }, deltas);
     Answer::Logged(reply)

@@ -16,7 +16,8 @@ pub struct Made {
 /// Makes the calls of a list one after the other, and gives the answer of each. After `Memory` none was made.
 pub fn make_all(alloc: Global, book: &mut Book, calls: Vec<Made>) -> Result<Vec<Answer>, Memory>
     requires { MayMakeAll book.old calls.items }
-    ensures answered { MatchResult result (λ answers. AreAnswered book.old book.new calls.items answers.items) (λ memory. book.new ≡ book.old) }
+    ensures answered { MatchResult result (λ answers. AreAnswered book.old book.new calls.items answers.items)
+        (λ memory. book.new ≡ book.old) }
     ensures legal { IsLegal book.new.house book.new.history }
     ensures continues { Continues book.old book.new }
 {

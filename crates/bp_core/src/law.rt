@@ -1,8 +1,29 @@
 //! Laws over histories, as the contracts of functions that do nothing.
 
 ghost use Rattle.bp_core.specs.Laws.{PrefixesAreLegal, NeverOversold, DeltasLead, EveryListIsLegal};
-ghost use Rattle.bp_core.specs.Staying.{RightStaysRight, AnsweredContinues, ContinuedIsPrefix, MayLogByOwn, ChangesGrow, NumberNeverFalls, ChangesStay, InstanceStays, InstanceAtStart, DeltasAppend, DeltasLast};
-ghost use Rattle.bp_core.specs.Counting.{NothingMore, JustThese, VectorBetween, TurnsSettle, LastPositionWithin, LastBoardIsLast, LeaveIsLast, CommandsAddUp};
+ghost use Rattle.bp_core.specs.Staying.{
+  RightStaysRight,
+  AnsweredContinues,
+  ContinuedIsPrefix,
+  MayLogByOwn,
+  ChangesGrow,
+  NumberNeverFalls,
+  ChangesStay,
+  InstanceStays,
+  InstanceAtStart,
+  DeltasAppend,
+  DeltasLast,
+};
+ghost use Rattle.bp_core.specs.Counting.{
+  NothingMore,
+  JustThese,
+  VectorBetween,
+  TurnsSettle,
+  LastPositionWithin,
+  LastBoardIsLast,
+  LeaveIsLast,
+  CommandsAddUp,
+};
 ghost use Rattle.bp_core.specs.Replying.{LastLineIsLegal, OneReply, AnswersSay};
 ghost use Rattle.bp_core.specs.Headline.{AcceptedExactly, VectorsAreOptimal, VectorsAreNewer, LeastIsKept};
 

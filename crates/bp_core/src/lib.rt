@@ -2,6 +2,14 @@
 //!
 //! Nights, stays and places are numbered from 0, rooms are whole rooms, forecasts and displacements are
 //! counted in the units of the house, and money is in minor units.
+//!
+//! A book opens with a board that is right for its house.
+//!
+//! ```
+//! let house = house(alloc, rooms, sold, stays, limits)?;
+//! let board = board_of(alloc, &house.instance(alloc)?, 0, claimed)?;
+//! let book = Book::new(alloc, house, board)?;
+//! ```
 #![tactic(auto)]
 
 mod book;

@@ -44,7 +44,7 @@ pub enum Reply {
 /// One entry of the history: who, what, and what was answered.
 #[derive(Clone, Copy, Debug, PartialEq, Eq)]
 pub struct Entry {
-    /// 0 is the opener, 1 to 63 are those that enrolled.
+    /// 0 is the opener, the others below `CALLERS` are those that enrolled.
     pub caller: u32,
     pub act: Act,
     pub reply: Reply,

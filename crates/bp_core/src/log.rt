@@ -1,4 +1,24 @@
-ghost use Rattle.std.specs.Prelude.{◌≡◌, ◌+◌, ◌-◌, ◌<◌, ◌≤◌, ◌^◌, ◌++◌, ◌∷◌, [], true, Some, None, length, map, slice_get, slice_index, vec_capacity, IfOk, IsTrue};
+ghost use Rattle.std.specs.Prelude.{
+  ◌≡◌,
+  ◌+◌,
+  ◌-◌,
+  ◌<◌,
+  ◌≤◌,
+  ◌^◌,
+  ◌++◌,
+  ◌∷◌,
+  [],
+  true,
+  Some,
+  None,
+  length,
+  map,
+  slice_get,
+  slice_index,
+  vec_capacity,
+  IfOk,
+  IsTrue,
+};
 ghost use Rattle.std.specs.Option.{option_map};
 ghost use Rattle.std.specs.Arc.{arc_value};
 ghost use Rattle.bp_core.specs.declared.line.Line.{Line};
@@ -38,7 +58,9 @@ impl Model for Log {
 
     ghost view = { λ l. record { lines = lines_of l.entries.items (map arc_value l.boards.items); deltas = map delta_list l.deltas.items; line_room = vec_capacity l.entries; board_room = vec_capacity l.boards } };
 
-    ghost invariant = { λ l. IsLog (lines_of l.entries.items (map arc_value l.boards.items)) (map arc_value l.boards.items) (map delta_list l.deltas.items) l.counts.items l.commands × (vec_capacity l.deltas ≡ vec_capacity l.entries) × (vec_capacity l.counts ≡ vec_capacity l.entries + 1) };
+    ghost invariant = { λ l. IsLog (lines_of l.entries.items (map arc_value l.boards.items))
+        (map arc_value l.boards.items) (map delta_list l.deltas.items) l.counts.items l.commands ×
+        (vec_capacity l.deltas ≡ vec_capacity l.entries) × (vec_capacity l.counts ≡ vec_capacity l.entries + 1) };
 }
 
 impl Log {
@@ -62,7 +84,15 @@ impl Log {
     pub(crate) fn push(&mut self, entry: Entry, deltas: Deltas)
         requires plain { published_position entry.act ≡ None }
         requires room { length self.old.lines < self.old.line_room }
-        ensures { self.new ≡ record { lines = self.old.lines ++ record { entry = entry; certificate = None } ∷ []; deltas = self.old.deltas ++ delta_list deltas ∷ []; line_room = self.old.line_room; board_room = self.old.board_room } }
+        ensures { self.new ≡ record {
+          lines =
+              self.old.lines ++ record { entry = entry; certificate = None } ∷ [];
+          deltas =
+              self.old.deltas ++ delta_list deltas ∷ [];
+          line_room = self.old.line_room;
+          board_room =
+              self.old.board_room;
+        } }
     {
         let changes = self.counts[self.entries.len()] + u64::from(is_change(&entry));
         self.commands += u64::from(is_command(&entry));
@@ -76,7 +106,15 @@ impl Log {
         requires room { length self.old.lines < self.old.line_room }
         requires board_room { vectors self.old.lines < self.old.board_room }
         ensures number { result ≡ vectors self.old.lines }
-        ensures posted { self.new ≡ record { lines = self.old.lines ++ published_line caller (arc_value board) (vectors self.old.lines) ∷ []; deltas = self.old.deltas ++ [] ∷ []; line_room = self.old.line_room; board_room = self.old.board_room } }
+        ensures posted { self.new ≡
+            record {
+              lines = self.old.lines ++
+                  published_line caller (arc_value board) (vectors self.old.lines) ∷ [];
+              deltas =
+                  self.old.deltas ++ [] ∷ [];
+              line_room = self.old.line_room;
+              board_room = self.old.board_room;
+            } }
     {
         let number = self.boards.len() as u64;
         let position = board.position();
@@ -143,7 +181,8 @@ impl Log {
         ensures reached { (from ≤ result) × (result ≤ until) }
         ensures moves { from < until → from < result }
         ensures items { into.new.items ≡ stored_between self.now.deltas from result }
-        ensures full { result < until → vec_capacity into.old < length (stored_between self.now.deltas from (result + 1)) }
+        ensures full { result < until →
+            vec_capacity into.old < length (stored_between self.now.deltas from (result + 1)) }
         ensures capacity { vec_capacity into.new ≡ vec_capacity into.old }
     {
         let _ = &self.commands;

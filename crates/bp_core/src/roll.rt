@@ -1,5 +1,29 @@
-ghost use Rattle.std.specs.Prelude.{◌≡◌, ◌+◌, ◌-◌, ◌<◌, ◌≤◌, ◌++◌, ◌∷◌, [], Some, length, slice_get, slice_set, IfOk, replicate};
-ghost use Rattle.bp_core.specs.Roll.{RollView, standing_of, is_new, is_present, is_gone, bookings_of, with_standing, with_bookings};
+ghost use Rattle.std.specs.Prelude.{
+  ◌≡◌,
+  ◌+◌,
+  ◌-◌,
+  ◌<◌,
+  ◌≤◌,
+  ◌++◌,
+  ◌∷◌,
+  [],
+  Some,
+  length,
+  slice_get,
+  slice_set,
+  IfOk,
+  replicate,
+};
+ghost use Rattle.bp_core.specs.Roll.{
+  RollView,
+  standing_of,
+  is_new,
+  is_present,
+  is_gone,
+  bookings_of,
+  with_standing,
+  with_bookings,
+};
 
 use bp_types::Memory;
 use bp_types::limits::CALLERS;
@@ -29,7 +53,7 @@ pub(crate) struct Booking {
     pub(crate) fate: Fate,
 }
 
-/// The standing of each of the 64 callers, and its booking calls in order.
+/// The standing of each of the callers, and its booking calls in order.
 #[derive(Drop)]
 pub(crate) struct Roll {
     standings: Vec<Standing>,
@@ -49,13 +73,15 @@ impl Model for Roll {
 
     ghost view = { λ r. record { standings = r.standings.items; bookings = map (λ (v : Vec Booking Global). v.items) r.bookings.items; room = r.room } };
 
-    ghost invariant = { λ r. (length r.standings.items ≡ CALLERS) × (length r.bookings.items ≡ CALLERS) × All (λ (v : Vec Booking Global). r.room ≤ vec_capacity v) r.bookings.items };
+    ghost invariant = { λ r. (length r.standings.items ≡ CALLERS) × (length r.bookings.items ≡ CALLERS) ×
+        All (λ (v : Vec Booking Global). r.room ≤ vec_capacity v) r.bookings.items };
 }
 
 impl Roll {
     /// The callers before any has an entry, with room for so many bookings of each.
     pub(crate) fn new(alloc: Global, room: usize) -> Result<Roll, Memory>
-        ensures { IfOk result (λ r. r ≡ record { standings = replicate CALLERS Standing.New; bookings = replicate CALLERS []; room = room }) }
+        ensures { IfOk result (λ r. r ≡
+            record { standings = replicate CALLERS Standing.New; bookings = replicate CALLERS []; room = room }) }
     {
         let mut standings = Vec::new(alloc);
         let mut bookings = Vec::new(alloc);

@@ -79,7 +79,8 @@ fn board_of(
     position: u64,
     claimed: Claimed<'_>,
 ) -> Result<Arc<Board>, Fail>
-    ensures { IfOk result (λ b. ((arc_value b).position ≡ position) × IsCertificateOf instance.now (arc_value b).certificate) }
+    ensures { IfOk result (λ b. ((arc_value b).position ≡ position) ×
+        IsCertificateOf instance.now (arc_value b).certificate) }
 {
     let certificate = optimal(alloc, instance, claimed)?;
     let _nights = instance.nights();
@@ -188,7 +189,8 @@ impl Desk {
     }
 
     fn all_units_left(&self, alloc: Global) -> Result<Vec<u64>, Fail>
-        ensures { IfOk result (λ v. v.items ≡ map (units_left_at self.now.house self.now.history) (range_with_len 0 (length self.now.house.rooms))) }
+        ensures { IfOk result (λ v. v.items ≡
+            map (units_left_at self.now.house self.now.history) (range_with_len 0 (length self.now.house.rooms))) }
     {
         let mut left = Vec::new(alloc);
         for night in 0..self.book.house().nights() {
@@ -209,7 +211,8 @@ impl Desk {
     }
 
     fn stays_now(&self, alloc: Global) -> Result<Vec<Stay>, Fail>
-        ensures { IfOk result (λ v. v.items ≡ map (stay_now self.now.house self.now.history) (range_with_len 0 (length self.now.house.stays))) }
+        ensures { IfOk result (λ v. v.items ≡
+            map (stay_now self.now.house self.now.history) (range_with_len 0 (length self.now.house.stays))) }
     {
         let mut stays = Vec::new(alloc);
         for stay in 0..self.book.house().stays() {

@@ -34,9 +34,11 @@ not_refused h H stay fresh room =
     rw (one_more, few_enough) refl
 
 -- so it is logged with the reply of its moment
-pub is_booked : (old new : Diary) (stay : ℕ) (answer : Answer) → length old.history < old.house.limits.stale_after → length old.history < old.house.limits.entries
+pub is_booked : (old new : Diary) (stay : ℕ) (answer : Answer) → length old.history < old.house.limits.stale_after →
+    length old.history < old.house.limits.entries
     → IsAnswered old new 0 (Do (Book stay) None) answer
-    → (answer ≡ Logged (book_reply old.house old.history stay)) × (new ≡ record { house = old.house; history = old.history ++ booking old.house old.history stay ∷ [] })
+    → (answer ≡ Logged (book_reply old.house old.history stay)) ×
+    (new ≡ record { house = old.house; history = old.history ++ booking old.house old.history stay ∷ [] })
 is_booked old new stay answer fresh room answered =
     let P : Option Answer → Type 0 = λ r. MatchOption r (IsLogged old new 0 (Do (Book stay) None) answer) (IsRefused old new answer) in
     let logged : IsLogged old new 0 (Do (Book stay) None) answer = subst P (not_refused old.house old.history stay fresh room) answered in
@@ -62,15 +64,18 @@ pub record AreBooked (h : Inn) (H : History) (n : ℕ) (now : Diary) (counts : C
 
 -- and after one more
 pub booked_more : (h : Inn) (H : History) (n : ℕ) (old new : Diary) (counts after : Counts) (reply : Reply) → AreBooked h H n old counts
-    → new ≡ record { house = old.house; history = old.history ++ booking old.house old.history n ∷ [] } → reply ≡ book_reply old.house old.history n → after ≡ with_reply counts reply
+    → new ≡ record { house = old.house; history = old.history ++ booking old.house old.history n ∷ [] } → reply ≡ book_reply old.house old.history n →
+    after ≡ with_reply counts reply
     → AreBooked h H (n + 1) new after
 booked_more h H n old new counts after reply so_far adds is more =
     let next : n + 1 ≡ suc n = omega arith in
     let lines : new.history ≡ old.history ++ booking old.house old.history n ∷ [] = ap (λ (d : Diary). d.history) adds in
     record {
       house = ap (λ (d : Diary). d.house) adds ∙ so_far.house;
-      history = lines ∙ ap (λ (k : Inn). old.history ++ booking k old.history n ∷ []) so_far.house ∙ ap (λ (G : History). G ++ booking h G n ∷ []) so_far.history ∙ ap (booked_behind h H) (sym next);
+      history = lines ∙ ap (λ (k : Inn). old.history ++ booking k old.history n ∷ []) so_far.house ∙
+          ap (λ (G : History). G ++ booking h G n ∷ []) so_far.history ∙ ap (booked_behind h H) (sym next);
       size = (let grown : length new.history ≡ length (old.history ++ booking old.house old.history n ∷ []) = ap (λ (G : History). length G) lines in
           omega (arith, grown, length-append old.history (booking old.house old.history n ∷ []), so_far.size));
-      counts_are = more ∙ ap (λ (k : Counts). with_reply k reply) so_far.counts_are ∙ ap (with_reply (counts_of old.history)) is ∙ counts_more old.house old.history n ∙ ap counts_of (sym lines);
+      counts_are = more ∙ ap (λ (k : Counts). with_reply k reply) so_far.counts_are ∙ ap (with_reply (counts_of old.history)) is ∙
+          counts_more old.house old.history n ∙ ap counts_of (sym lines);
     }

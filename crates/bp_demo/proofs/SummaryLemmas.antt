@@ -36,7 +36,8 @@ pub summed : (h : Inn) (first : Claim) (board : Posted) (opened closed : Diary) 
     → IsSummary h (record { value = value; prices = prices; counts = counts; closing = closing })
 summed h first board opened closed value prices closing counts solved value_is board_is prices_are opened_is house_is history_is counts_are optimum =
     let history : closed.history ≡ all_booked h first =
-    history_is ∙ ap (λ (d : Diary). booked_behind d.house d.history (length d.house.stays)) opened_is ∙ ap (λ (b : Posted). booked_behind h (opening_line b ∷ []) (length h.stays)) board_is in
+    history_is ∙ ap (λ (d : Diary). booked_behind d.house d.history (length d.house.stays)) opened_is ∙
+    ap (λ (b : Posted). booked_behind h (opening_line b ∷ []) (length h.stays)) board_is in
     let house : closed.house ≡ h = house_is ∙ ap (λ (d : Diary). d.house) opened_is in
     let P : Inn → Type 0 = λ k. IsOptimum (instance_of k closed.history) closing in
     let Q : History → Type 0 = λ G. IsOptimum (instance_of h G) closing in
@@ -44,7 +45,8 @@ summed h first board opened closed value prices closing counts solved value_is b
       first = first;
       solved = solved;
       value = value_is;
-      prices = prices_are ∙ ap (λ (b : Posted). price b.certificate.prices (all_nights (length b.certificate.prices))) board_is ∙ ap (λ n. price first.prices (all_nights n)) (one_each h first solved.certifies);
+      prices = prices_are ∙ ap (λ (b : Posted). price b.certificate.prices (all_nights (length b.certificate.prices))) board_is ∙
+          ap (λ n. price first.prices (all_nights n)) (one_each h first solved.certifies);
       counts = counts_are ∙ ap counts_of history;
       closing = subst Q history (subst P house optimum);
     }

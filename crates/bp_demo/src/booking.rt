@@ -13,7 +13,12 @@ fn book_stay(book: &mut Book, stay: u32) -> Reply
     requires there { stay < length book.old.house.stays }
     requires fresh { length book.old.history < book.old.house.limits.stale_after }
     requires room { length book.old.history < book.old.house.limits.entries }
-    ensures booked { book.new ≡ record { house = book.old.house; history = book.old.history ++ booking book.old.house book.old.history stay ∷ [] } }
+    ensures booked { book.new ≡
+        record {
+          house = book.old.house;
+          history =
+              book.old.history ++ booking book.old.house book.old.history stay ∷ [];
+        } }
     ensures reply { result ≡ book_reply book.old.house book.old.history stay }
 {
     let call = Call::Do {

@@ -30,7 +30,8 @@ fn stay_now(book: &Book, stay: u32) -> Stay
 }
 
 fn rooms_left(alloc: Global, book: &Book) -> Result<Vec<u64>, Memory>
-    ensures { IfOk result (λ v. v.items ≡ map (units_left_at book.now.house book.now.history) (range_with_len 0 (length book.now.house.rooms))) }
+    ensures { IfOk result (λ v. v.items ≡
+        map (units_left_at book.now.house book.now.history) (range_with_len 0 (length book.now.house.rooms))) }
 {
     let mut left = Vec::new(alloc);
     for night in 0..book.house().nights() {
@@ -40,7 +41,8 @@ fn rooms_left(alloc: Global, book: &Book) -> Result<Vec<u64>, Memory>
 }
 
 fn stays_now(alloc: Global, book: &Book) -> Result<Vec<Stay>, Memory>
-    ensures { IfOk result (λ v. v.items ≡ map (stay_now book.now.house book.now.history) (range_with_len 0 (length book.now.house.stays))) }
+    ensures { IfOk result (λ v. v.items ≡
+        map (stay_now book.now.house book.now.history) (range_with_len 0 (length book.now.house.stays))) }
 {
     let mut stays = Vec::new(alloc);
     for stay in 0..book.house().stays() {

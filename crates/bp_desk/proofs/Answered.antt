@@ -1,5 +1,30 @@
 -- What answers say: one is a reply exactly where the call was logged, and a group gets a group's.
-use Rattle.std.proofs.Common.{◌≡◌, ℕ, ◌*◌, Bool, true, false, cond, [], ◌∷◌, ◌++◌, Option, Some, None, is_some, MatchOption, nat_lt, nat_le, refl, sym, ap, subst, ◌∙◌, ◌==◌, eq-eqb}
+use Rattle.std.proofs.Common.{
+  ◌≡◌,
+  ℕ,
+  ◌*◌,
+  Bool,
+  true,
+  false,
+  cond,
+  [],
+  ◌∷◌,
+  ◌++◌,
+  Option,
+  Some,
+  None,
+  is_some,
+  MatchOption,
+  nat_lt,
+  nat_le,
+  refl,
+  sym,
+  ap,
+  subst,
+  ◌∙◌,
+  ◌==◌,
+  eq-eqb,
+}
 use Rattle.std.proofs.lemmas.List.Elements.{filter-append}
 use Rattle.std.specs.Arc.{arc_value}
 use Rattle.bp_types.specs.House.{Inn}
@@ -37,7 +62,8 @@ quote_refused H None o is = subst (λ x. is_logged x ≡ false) (same_some Unquo
 quote_refused H (Some q) o is = if_refused (nat_le 1 (changes_after H q.position)) (Stale (changes_after H q.position)) o refl is
 
 command_refused : (h : Inn) (H : History) (c : Command) (q : Option Quoted) (o : Answer) → command_refusal h H c q ≡ Some o → is_logged o ≡ false
-command_refused h H (Book stay) q o is = if_refused (nat_le h.limits.stale_after (changes_after H (last_position H))) (Behind (last_position H) (changes_after H (last_position H))) o refl is
+command_refused h H (Book stay) q o is =
+    if_refused (nat_le h.limits.stale_after (changes_after H (last_position H))) (Behind (last_position H) (changes_after H (last_position H))) o refl is
 command_refused h H (Group span rooms amount) q o is = go (is_some (first_short (rooms_left_at h H) span rooms)) is
   where
     go : (b : Bool) → cond b None (quote_refusal H q) ≡ Some o → is_logged o ≡ false
@@ -56,7 +82,8 @@ refused_plain h H (Do command quoted) o is = go (commands H == h.limits.entries)
     go false e = command_refused h H command quoted o e
 refused_plain h H (Publish board least) o is = go (nat_lt (changes_between H (last_position H) (arc_value board).position) least) is
   where
-    go : (b : Bool) → cond b (Some (Superseded (last_position H) (changes_between H (last_position H) (arc_value board).position))) (refuse_if (vectors H == h.limits.publications) PublicationsFull) ≡ Some o → is_logged o ≡ false
+    go : (b : Bool) → cond b (Some (Superseded (last_position H) (changes_between H (last_position H) (arc_value board).position)))
+        (refuse_if (vectors H == h.limits.publications) PublicationsFull) ≡ Some o → is_logged o ≡ false
     go true e = subst (λ x. is_logged x ≡ false) (same_some _ o e) refl
     go false e = if_refused (vectors H == h.limits.publications) PublicationsFull o refl e
 refused_plain h H Enrol o is = no_some (is_logged o ≡ false) o is
@@ -74,15 +101,21 @@ by_answer old new caller call answer P is logged refused = go (refusal old.house
 true_not_false : (b : Bool) → b ≡ true → b ≡ false → {A : Type 0} → A
 true_not_false b t f = absurd (let e : true ≡ false = sym t ∙ f in cc)
 
-pub logged_adds : (old new : Diary) (caller : ℕ) (call : Call) (answer : Answer) → IsAnswered old new caller call answer → is_logged answer ≡ true → IsLogged old new caller call answer
-logged_adds old new caller call answer is on = by_answer old new caller call answer (IsLogged old new caller call answer) is (λ l. l) (λ off _. true_not_false (is_logged answer) on off)
+pub logged_adds : (old new : Diary) (caller : ℕ) (call : Call) (answer : Answer) → IsAnswered old new caller call answer → is_logged answer ≡ true →
+    IsLogged old new caller call answer
+logged_adds old new caller call answer is on =
+    by_answer old new caller call answer (IsLogged old new caller call answer) is (λ l. l) (λ off _. true_not_false (is_logged answer) on off)
 
-pub refused_keeps : (old new : Diary) (caller : ℕ) (call : Call) (answer : Answer) → IsAnswered old new caller call answer → is_logged answer ≡ false → new ≡ old
-refused_keeps old new caller call answer is off = by_answer old new caller call answer (new ≡ old) is (λ l. true_not_false (is_logged answer) (ap is_logged l.answer_is) off) (λ _ same. same)
+pub refused_keeps : (old new : Diary) (caller : ℕ) (call : Call) (answer : Answer) → IsAnswered old new caller call answer → is_logged answer ≡ false →
+    new ≡ old
+refused_keeps old new caller call answer is off =
+    by_answer old new caller call answer (new ≡ old) is (λ l. true_not_false (is_logged answer) (ap is_logged l.answer_is) off) (λ _ same. same)
 
 -- a call more of the caller, where it was logged
-pub calls_push : (H : History) (caller : ℕ) (call : Call) (reply : Reply) → calls (H ++ line_of caller call reply ∷ []) caller ≡ calls H caller ++ line_of caller call reply ∷ []
-calls_push H caller call reply = filter-append (is_by caller) H (line_of caller call reply ∷ []) ∙ ap (λ (b : Bool). calls H caller ++ cond b (line_of caller call reply ∷ []) []) (eq-eqb caller caller refl)
+pub calls_push : (H : History) (caller : ℕ) (call : Call) (reply : Reply) →
+    calls (H ++ line_of caller call reply ∷ []) caller ≡ calls H caller ++ line_of caller call reply ∷ []
+calls_push H caller call reply = filter-append (is_by caller) H (line_of caller call reply ∷ []) ∙
+    ap (λ (b : Bool). calls H caller ++ cond b (line_of caller call reply ∷ []) []) (eq-eqb caller caller refl)
 
 quote_asked : (H : History) (q : Option Quoted) (o : Answer) → quote_refusal H q ≡ Some o → is_group_answer o ≡ true
 quote_asked H None o is = subst (λ x. is_group_answer x ≡ true) (same_some Unquoted o is) refl
@@ -92,7 +125,8 @@ quote_asked H (Some q) o is = go (nat_le 1 (changes_after H q.position)) is
     go true e = subst (λ x. is_group_answer x ≡ true) (same_some _ o e) refl
     go false e = no_some (is_group_answer o ≡ true) o e
 
-group_refused : (h : Inn) (H : History) (span : Span) (rooms amount : ℕ) (q : Option Quoted) (o : Answer) → refusal h H (Do (Group span rooms amount) q) ≡ Some o → is_group_answer o ≡ true
+group_refused : (h : Inn) (H : History) (span : Span) (rooms amount : ℕ) (q : Option Quoted) (o : Answer) →
+    refusal h H (Do (Group span rooms amount) q) ≡ Some o → is_group_answer o ≡ true
 group_refused h H span rooms amount q o is = full (commands H == h.limits.entries) is
   where
     lacks : (b : Bool) → cond b None (quote_refusal H q) ≡ Some o → is_group_answer o ≡ true
@@ -115,9 +149,11 @@ group_replied h H span rooms amount r is = go (first_short (rooms_left_at h H) s
     go (Some night) e = subst (λ x. is_group_reply x ≡ true) (sym e) refl
 
 -- what a group is answered is a group's answer
-pub group_answered : (old new : Diary) (caller : ℕ) (span : Span) (rooms amount : ℕ) (q : Option Quoted) (a : Answer) → IsAnswered old new caller (Do (Group span rooms amount) q) a → is_group_answer a ≡ true
+pub group_answered : (old new : Diary) (caller : ℕ) (span : Span) (rooms amount : ℕ) (q : Option Quoted) (a : Answer) →
+    IsAnswered old new caller (Do (Group span rooms amount) q) a → is_group_answer a ≡ true
 group_answered old new caller span rooms amount q a is = go (refusal old.house old.history (Do (Group span rooms amount) q)) refl is
   where
-    go : (o : Option Answer) → refusal old.house old.history (Do (Group span rooms amount) q) ≡ o → MatchOption o (IsLogged old new caller (Do (Group span rooms amount) q) a) (IsRefused old new a) → is_group_answer a ≡ true
+    go : (o : Option Answer) → refusal old.house old.history (Do (Group span rooms amount) q) ≡ o →
+        MatchOption o (IsLogged old new caller (Do (Group span rooms amount) q) a) (IsRefused old new a) → is_group_answer a ≡ true
     go None e l = subst (λ x. is_group_answer x ≡ true) (sym l.answer_is) (group_replied old.house old.history span rooms amount l.reply l.replies)
     go (Some o) e r = subst (λ x. is_group_answer x ≡ true) (sym r.0) (group_refused old.house old.history span rooms amount q o e)

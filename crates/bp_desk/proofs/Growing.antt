@@ -25,7 +25,8 @@ pub may_act_same : (G H : History) (caller : ℕ) → calls G caller ≡ calls H
 may_act_same G H caller same = may_log_by_own G H caller (PublishAct 0) same
 
 -- what may be made by what was seen may be made later
-pub may_make_later : (h : Inn) (G H : History) (caller : ℕ) (call : Call) → IsPrefix G H → calls G caller ≡ calls H caller → MayMake h G caller call → MayMake h H caller call
+pub may_make_later : (h : Inn) (G H : History) (caller : ℕ) (call : Call) → IsPrefix G H → calls G caller ≡ calls H caller → MayMake h G caller call →
+    MayMake h H caller call
 may_make_later h G H caller call grows same may = record {
   caller_may = subst IsTrue (may_log_by_own G H caller (act_of call) same) may.caller_may;
   in_range = may.in_range;

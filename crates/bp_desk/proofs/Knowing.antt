@@ -1,5 +1,36 @@
 -- The newest vector, as histories grow.
-use Rattle.std.proofs.Common.{◌≡◌, ◌≢◌, ℕ, ◌<◌, ◌≤◌, Bool, true, false, nat_lt, cond, List, [], ◌∷◌, ◌++◌, length, Some, refl, sym, ap, subst, ◌∙◌, arith, slice_get, zero, suc, ◌==◌, ◌⊎◌, inl, inr, eq-eqb}
+use Rattle.std.proofs.Common.{
+  ◌≡◌,
+  ◌≢◌,
+  ℕ,
+  ◌<◌,
+  ◌≤◌,
+  Bool,
+  true,
+  false,
+  nat_lt,
+  cond,
+  List,
+  [],
+  ◌∷◌,
+  ◌++◌,
+  length,
+  Some,
+  refl,
+  sym,
+  ap,
+  subst,
+  ◌∙◌,
+  arith,
+  slice_get,
+  zero,
+  suc,
+  ◌==◌,
+  ◌⊎◌,
+  inl,
+  inr,
+  eq-eqb,
+}
 use Rattle.std.proofs.lemmas.List.Elements.{filter_map-append}
 use Rattle.std.proofs.lemmas.Option.{slice_get_within}
 use Rattle.std.proofs.lemmas.Bool.{eqb-true, ltb-true, ltb-false}
@@ -23,18 +54,21 @@ found_before (y ∷ xs) ys zero x is = is
 found_before (y ∷ xs) ys (suc n) x is = found_before xs ys n x is
 
 -- with as many vectors the last one is the same
-pub same_last : (h : Inn) (G H : History) → IsLegal h G → IsLegal h H → IsPrefix G H → last_number G ≡ last_number H → (last_position G ≡ last_position H) × (last_prices G ≡ last_prices H)
+pub same_last : (h : Inn) (G H : History) → IsLegal h G → IsLegal h H → IsPrefix G H → last_number G ≡ last_number H →
+    (last_position G ≡ last_position H) × (last_prices G ≡ last_prices H)
 same_last h G H before after (rest, is) same =
     let a = last_board_is_last h G before in
     let b = last_board_is_last h H after in
     let there : slice_get (boards H) (last_number H) ≡ Some a.board =
     subst (λ n. slice_get (boards H) n ≡ Some a.board) same
-    (subst (λ K. slice_get K (last_number G) ≡ Some a.board) (sym (filter_map-append posted G rest) ∙ ap boards (sym is)) (found_before (boards G) (boards rest) (last_number G) a.board a.last)) in
+    (subst (λ K. slice_get K (last_number G) ≡ Some a.board) (sym (filter_map-append posted G rest) ∙
+    ap boards (sym is)) (found_before (boards G) (boards rest) (last_number G) a.board a.last)) in
     let one : a.board ≡ b.board = same_some a.board b.board (sym there ∙ b.last) in
     (sym a.position ∙ ap (λ (p : Posted). p.position) one ∙ b.position, sym a.prices ∙ ap (λ (p : Posted). p.certificate.prices) one ∙ b.prices)
 
 -- the newest vector of a history is that of a longer one with as many
-pub newest_still : (h : Inn) (G H : History) (v : Vector) → IsLegal h G → IsLegal h H → IsPrefix G H → last_number G ≡ last_number H → IsNewest h G v → IsNewest h H v
+pub newest_still : (h : Inn) (G H : History) (v : Vector) → IsLegal h G → IsLegal h H → IsPrefix G H → last_number G ≡ last_number H → IsNewest h G v →
+    IsNewest h H v
 newest_still h G H v before after grows same knows =
     let last = same_last h G H before after grows same in
     record {
@@ -77,11 +111,13 @@ newer h G H K v w u legal_g legal_h legal_k from_g from_h which knows_g knows_h 
     (λ lt. subst (IsNewest h K) (sym (less lt)) (newest_still h H K w legal_h legal_k from_h (of_second which lt g a b) knows_h))
     (λ le. subst (IsNewest h K) (sym (more le)) (newest_still h G K v legal_g legal_k from_g (of_first which le k a b) knows_g))
   where
-    of_second : (K ≡ G) ⊎ (K ≡ H) → v.number < w.number → last_number G ≤ last_number K → v.number ≡ last_number G → w.number ≡ last_number H → last_number H ≡ last_number K
+    of_second : (K ≡ G) ⊎ (K ≡ H) → v.number < w.number → last_number G ≤ last_number K → v.number ≡ last_number G → w.number ≡ last_number H →
+        last_number H ≡ last_number K
     of_second (inl e) lt g a b = let n = ap last_number e in let k = number_never_falls H K from_h in omega (arith, n, lt, g, a, b, k)
     of_second (inr e) lt g a b = sym (ap last_number e)
 
-    of_first : (K ≡ G) ⊎ (K ≡ H) → w.number ≤ v.number → last_number H ≤ last_number K → v.number ≡ last_number G → w.number ≡ last_number H → last_number G ≡ last_number K
+    of_first : (K ≡ G) ⊎ (K ≡ H) → w.number ≤ v.number → last_number H ≤ last_number K → v.number ≡ last_number G → w.number ≡ last_number H →
+        last_number G ≡ last_number K
     of_first (inl e) le k a b = sym (ap last_number e)
     of_first (inr e) le k a b = let n = ap last_number e in let g = number_never_falls G K from_g in omega (arith, n, le, g, a, b, k)
 

@@ -47,8 +47,10 @@ read_again a b c x y =
     record {
       more = x.more ++ y.more;
       begins = (x.begins.0 ++ y.begins.0, y.begins.1 ∙ ap (λ l. l ++ y.begins.0) x.begins.1 ∙ append_assoc a.seen x.begins.0 y.begins.0);
-      pass = y.pass ∙ ap (λ (p : PassState). record p { seen = c.seen; turns = p.turns ++ y.more }) x.pass ∙ ap (λ (ts : List ℕ). record a { seen = c.seen; turns = ts }) (append_assoc a.turns x.more y.more);
-      lengths = All-append (λ t. t ≤ length c.seen) x.more y.more (All-weaker (λ t. t ≤ length b.seen) (λ t. t ≤ length c.seen) (λ t h. let n = prefix_le b.seen c.seen y.begins in omega (arith, h, n)) x.more x.lengths) y.lengths;
+      pass = y.pass ∙ ap (λ (p : PassState). record p { seen = c.seen; turns = p.turns ++ y.more }) x.pass ∙
+          ap (λ (ts : List ℕ). record a { seen = c.seen; turns = ts }) (append_assoc a.turns x.more y.more);
+      lengths = All-append (λ t. t ≤ length c.seen) x.more y.more (All-weaker (λ t. t ≤ length b.seen) (λ t. t ≤ length c.seen) (λ t h. let n =
+          prefix_le b.seen c.seen y.begins in omega (arith, h, n)) x.more x.lengths) y.lengths;
       own = subst (λ n. calls c.seen n ≡ a.calls) caller (y.own ∙ made);
       legal = subst (λ h. IsLegal h c.seen) house y.legal;
     }
@@ -60,12 +62,14 @@ carried_later old new c r at =
     let house : new.house ≡ old.house = ap (λ (p : PassState). p.house) r.pass in
     record {
       within = omega (arith, n, w);
-      is_there = at.is_there ∙ sym (ap (λ h. instance_at h new.seen c.position) house ∙ instance_stays old.house old.seen new.seen c.position r.begins at.within);
+      is_there = at.is_there ∙
+          sym (ap (λ h. instance_at h new.seen c.position) house ∙ instance_stays old.house old.seen new.seen c.position r.begins at.within);
       room = at.room;
     }
 
 -- and back, where its position was seen
-pub carried_before : (old new : PassState) (c : Carried) → HasReadOn old new → c.position ≤ length old.seen → IsCarried new.house new.seen c → IsCarried old.house old.seen c
+pub carried_before : (old new : PassState) (c : Carried) → HasReadOn old new → c.position ≤ length old.seen → IsCarried new.house new.seen c →
+    IsCarried old.house old.seen c
 carried_before old new c r within at =
     let house : new.house ≡ old.house = ap (λ (p : PassState). p.house) r.pass in
     record {

@@ -53,13 +53,16 @@ gone_again a b c x y =
       legal = subst (λ h. IsLegal h c.seen) house y.legal;
     }
 
-gone_by_publication : (first new : PassState) (position : ℕ) (certificate : Claim) (answer : Answer) → IsPublished first new position certificate answer → HasGoneOn first new
-gone_by_publication first new position certificate answer p = gone_again first p.middle new (gone_by_reads first p.middle p.read_on) (gone_by_call p.middle new p.call answer p.called)
+gone_by_publication : (first new : PassState) (position : ℕ) (certificate : Claim) (answer : Answer) → IsPublished first new position certificate answer →
+    HasGoneOn first new
+gone_by_publication first new position certificate answer p =
+    gone_again first p.middle new (gone_by_reads first p.middle p.read_on) (gone_by_call p.middle new p.call answer p.called)
 
 gone_by_position : (old first new : PassState) → HasGoneOn old first → new ≡ first → HasGoneOn old new
 gone_by_position old first new g same = subst (HasGoneOn old) (sym same) g
 
-gone_by : (old first new : PassState) (position : ℕ) (certificate : Claim) (result : Result ℕ SubmitError) → HasRead old first → GoesOn first new position certificate result → HasGoneOn old new
+gone_by : (old first new : PassState) (position : ℕ) (certificate : Claim) (result : Result ℕ SubmitError) → HasRead old first →
+    GoesOn first new position certificate result → HasGoneOn old new
 gone_by old first new position certificate result looked on =
     let once : HasGoneOn old first = gone_by_reads old first (read_once old first looked) in go once result on
   where
@@ -71,7 +74,8 @@ gone_by old first new position certificate result looked on =
     go once (Err (Superseded last changes)) x = gone_again old first new once (gone_by_publication first new position certificate _ x.1)
     go once (Err PublicationsFull) x = gone_again old first new once (gone_by_publication first new position certificate _ x.1)
 
-pub submitted : (old first new : PassState) (position : ℕ) (certificate : Claim) (result : Result ℕ SubmitError) → HasRead old first → GoesOn first new position certificate result → IsSubmitted old new position certificate result
+pub submitted : (old first new : PassState) (position : ℕ) (certificate : Claim) (result : Result ℕ SubmitError) → HasRead old first →
+    GoesOn first new position certificate result → IsSubmitted old new position certificate result
 submitted old first new position certificate result looked on = record {
   gone_on = gone_by old first new position certificate result looked on;
   first = first;
@@ -80,8 +84,10 @@ submitted old first new position certificate result looked on = record {
 }
 
 -- what was published
-pub published : (first middle new : PassState) (position : ℕ) (certificate : Claim) (call : Call) (answer : Answer) → HasReadOn first middle → IsCertificateOf (instance_at first.house first.seen position) certificate →
-    Publishes call (record { position = position; certificate = certificate }) 1 → IsCalled middle new call answer → AddsCall middle new call answer → IsPublished first new position certificate answer
+pub published : (first middle new : PassState) (position : ℕ) (certificate : Claim) (call : Call) (answer : Answer) → HasReadOn first middle →
+    IsCertificateOf (instance_at first.house first.seen position) certificate →
+    Publishes call (record { position = position; certificate = certificate }) 1 → IsCalled middle new call answer → AddsCall middle new call answer →
+    IsPublished first new position certificate answer
 published first middle new position certificate call answer read_on certifies publishes called adds = record {
   middle = middle;
   read_on = read_on;

@@ -17,10 +17,12 @@ price_to_last prices s ordered last =
     omega (arith, fall, none, e)
 
 -- the sums with one more
-pub one_more : (prices sums : List ℕ) (night sum : ℕ) → night < length sums → sum ≡ price_from prices night → ((n : ℕ) → n < night → slice_index sums n ≡ price_from prices n) →
+pub one_more : (prices sums : List ℕ) (night sum : ℕ) → night < length sums → sum ≡ price_from prices night →
+    ((n : ℕ) → n < night → slice_index sums n ≡ price_from prices n) →
     (n : ℕ) → n < night + 1 → slice_index (set sums night sum) n ≡ price_from prices n
 one_more prices sums night sum within is made n below =
     elim (cases_eq n night) [
-      | inl here ↦ let e = get_or-set_same sums night sum 0 within in let f = ap (slice_index (set sums night sum)) here in let g = ap (price_from prices) here in omega (arith, e, f, g, is)
+      | inl here ↦ let e = get_or-set_same sums night sum 0 within in let f = ap (slice_index (set sums night sum)) here in
+          let g = ap (price_from prices) here in omega (arith, e, f, g, is)
       | inr other ↦ let e = get_or-set_other sums night n sum 0 other in let m = made n (omega (arith, below, other)) in omega (arith, e, m)
     ]

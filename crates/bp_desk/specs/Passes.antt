@@ -3,7 +3,7 @@ use Rattle.std.specs.Prelude.{◌≡◌, ◌≢◌, ℕ, ◌-◌, ◌≤◌, fal
 use Rattle.atomic_table.specs.Seated.{TableId}
 use Rattle.bp_types.specs.declared.limits.TheConstants.{CALLERS}
 use Rattle.bp_types.specs.House.{Inn}
-use Rattle.bp_turn.specs.Callers.{numbers_from}
+use Rattle.bp_turn.specs.Callers.{numbers_from, numbers_to_hand_out}
 use Rattle.bp_turn.specs.Seat.{SeatState}
 use Rattle.bp_core.specs.declared.line.Line.{Line}
 use Rattle.bp_core.specs.Lines.{History, calls}
@@ -12,8 +12,10 @@ use Rattle.bp_core.specs.Legal.{IsLegal}
 use Rattle.bp_desk.specs.Newest.{Vector, IsNewest}
 
 -- What a pass is, has seen and has done.
--- `desk` is the desk that gave it, `house` the house of that desk, `caller` the number that it calls under. It has seen the first entries of the history, `seen`, in which `calls` are its own.
--- `free` are the numbers that it may still hand out, `ended` the callers that were joined into it, each with its calls; `turns` and `looks` are the lengths that its turns and looks found.
+-- `desk` is the desk that gave it, `house` the house of that desk, `caller` the number that it calls under. It has seen
+-- the first entries of the history, `seen`, in which `calls` are its own.
+-- `free` are the numbers that it may still hand out, `ended` the callers that were joined into it, each with its calls;
+-- `turns` and `looks` are the lengths that its turns and looks found.
 pub record PassState : Type 0 where
   pub desk : TableId
   pub house : Inn
@@ -25,7 +27,8 @@ pub record PassState : Type 0 where
   pub turns : List ℕ
   pub looks : List ℕ
 
--- what the pass has seen has of each caller just what is kept: its own calls, those of the callers joined into it, and none of a number that it may still hand out or that nobody has
+-- what the pass has seen has of each caller just what is kept: its own calls, those of the callers joined into it, and
+-- none of a number that it may still hand out or that nobody has
 pub record HasAccounts (p : PassState) : Type 0 where
   pub own : calls p.seen p.caller ≡ p.calls
   pub ended : All (λ (x : ℕ × History). calls p.seen x.0 ≡ x.1) p.ended
@@ -42,7 +45,17 @@ house_of s = unwrap_or s.fixed no_house
 
 -- a seat as a pass
 abbrev pub pass_of : SeatState Inn Line → PassState
-pass_of s = record { desk = s.lock; house = house_of s; caller = s.number; seen = s.seen; calls = s.own; free = s.free; ended = s.ended; turns = s.turns; looks = s.looks }
+pass_of s = record {
+  desk = s.lock;
+  house = house_of s;
+  caller = s.number;
+  seen = s.seen;
+  calls = s.own;
+  free = s.free;
+  ended = s.ended;
+  turns = s.turns;
+  looks = s.looks;
+}
 
 -- a seat that does not have the turn, and has seen a legal history
 pub record IsIdle (s : SeatState Inn Line) : Type 0 where
@@ -70,7 +83,7 @@ pub record IsGone (s : SeatState Inn Line) (newest : Vector) : Type 0 where
 -- the pass of who opens a desk
 abbrev pub opener : TableId → Inn → Line → PassState
 opener desk house line =
-    record { desk = desk; house = house; caller = 0; seen = line ∷ []; calls = line ∷ []; free = numbers_from 1 63; ended = []; turns = []; looks = [] }
+    record { desk = desk; house = house; caller = 0; seen = line ∷ []; calls = line ∷ []; free = numbers_to_hand_out; ended = []; turns = []; looks = [] }
 
 -- a pass with a number of its own that has seen as much as another, before its first call
 abbrev pub newcomer : PassState → ℕ → PassState

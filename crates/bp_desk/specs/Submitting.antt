@@ -30,7 +30,8 @@ pub record HasReadOn (old new : PassState) : Type 0 where
   pub own : calls new.seen old.caller ≡ old.calls
   pub legal : IsLegal old.house new.seen
 
--- what a call with several turns keeps of its pass: it has seen a legal history that begins with all that it had seen, and has under its number just its own calls; nothing else but its turns is another
+-- what a call with several turns keeps of its pass: it has seen a legal history that begins with all that it had seen,
+-- and has under its number just its own calls; nothing else but its turns is another
 pub record HasGoneOn (old new : PassState) : Type 0 where
   pub begins : IsPrefix old.seen new.seen
   pub pass : new ≡ record old { seen = new.seen; calls = new.calls; turns = new.turns }

@@ -1,7 +1,20 @@
 -- What the calls with answers of their own answer, as answers of the book.
 use Rattle.std.specs.Prelude.{ℕ, Bool, true, false, Result, Ok, Err}
 use Rattle.bp_core.specs.declared.line.Reply.{Reply}
-use Rattle.bp_core.specs.declared.line.Reply.TheVariants.{Accepted, TooLow, NoRoom, Cancelled, NotBooked, AlreadyCancelled, Done, BelowSold, GroupAccepted, GroupTooLow, GroupNoRoom, Vector}
+use Rattle.bp_core.specs.declared.line.Reply.TheVariants.{
+  Accepted,
+  TooLow,
+  NoRoom,
+  Cancelled,
+  NotBooked,
+  AlreadyCancelled,
+  Done,
+  BelowSold,
+  GroupAccepted,
+  GroupTooLow,
+  GroupNoRoom,
+  Vector,
+}
 use Rattle.bp_core.specs.declared.call.Answer.{Answer}
 use Rattle.bp_core.specs.declared.call.Answer.TheVariants.{Logged, HistoryFull, Behind, Unquoted, Stale, Superseded, PublicationsFull}
 use Rattle.bp_desk.specs.declared.replies.BookReply.{BookReply}

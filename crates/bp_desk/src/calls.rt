@@ -5,7 +5,15 @@ ghost use Rattle.bp_core.specs.declared.line.Act.TheVariants.{Do as DoAct};
 ghost use Rattle.bp_core.specs.Acting.{IsCallRight};
 ghost use Rattle.bp_core.specs.Legal.{is_in_range};
 ghost use Rattle.bp_desk.specs.Calling.{IsCalled, AddsCall};
-ghost use Rattle.bp_desk.specs.Typed.{book_answer, cancel_answer, plain_answer, resize_answer, group_answer, is_group_answer, publish_answer};
+ghost use Rattle.bp_desk.specs.Typed.{
+  book_answer,
+  cancel_answer,
+  plain_answer,
+  resize_answer,
+  group_answer,
+  is_group_answer,
+  publish_answer,
+};
 
 use crate::desk::Desk;
 use crate::pass::Pass;

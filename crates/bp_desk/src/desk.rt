@@ -48,7 +48,7 @@ impl Model for Desk {
 /// Why nobody was enrolled. Nothing was logged, and no number is gone.
 #[derive(Clone, Copy, Debug, PartialEq, Eq)]
 pub enum EnrolError {
-    /// All 63 numbers were handed out.
+    /// All numbers below `CALLERS` were handed out.
     CallersFull,
     Memory,
 }
@@ -287,7 +287,8 @@ impl Desk {
     /// Gives the book back as it was, after the pass has learnt its last vector.
     pub(crate) fn give(&self, seat: &mut TurnSeat<Shared>, newest: &mut Newest, shared: Shared)
         requires lock { seat.old.lock ≡ self.now }
-        requires turn { (s : SeatState Inn Line) × HasTurn s seat.old shared × IsIdle s × IsNewest (house_of s) s.seen newest.old }
+        requires turn { (s : SeatState Inn Line) × HasTurn s seat.old shared × IsIdle s ×
+            IsNewest (house_of s) s.seen newest.old }
         ensures seat { seat.new ≡ record seat.old { has_turn = false } }
         ensures newest { IsNewest (house_of seat.new) seat.new.seen newest.new }
     {

@@ -82,7 +82,8 @@ impl Newest {
     pub(crate) fn learn(&mut self, book: &Book)
         requires { length self.old.sums ≡ length book.now.house.rooms + 1 }
         ensures same { self.old.number ≡ last_number book.now.history → self.new ≡ self.old }
-        ensures other { self.old.number ≢ last_number book.now.history → IsNewest book.now.house book.now.history self.new }
+        ensures other { self.old.number ≢ last_number book.now.history →
+            IsNewest book.now.house book.now.history self.new }
     {
         if self.number != book.vectors().saturating_sub(1) {
             self.copy_last(book);

@@ -20,7 +20,7 @@ use std::marker::Model;
 pub struct Pass {
     pub(crate) seat: TurnSeat<Shared>,
     pub(crate) caller: u32,
-    /// The number that it hands out next, and 64 where it hands out none.
+    /// The number that it hands out next, and `CALLERS` where it hands out none.
     pub(crate) next: u32,
     pub(crate) newest: Newest,
 }

@@ -45,8 +45,10 @@ impl Desk {
         ensures reached { (from ≤ result) × (result ≤ length pass.new.seen) }
         ensures moves { from < length pass.new.seen → from < result }
         ensures items { into.new.items ≡ deltas_between pass.old.house pass.new.seen from result }
-        ensures leads { Leads (instance_at pass.old.house pass.new.seen from) into.new.items (instance_at pass.old.house pass.new.seen result) }
-        ensures full { result < length pass.new.seen → vec_capacity into.old < length (deltas_between pass.old.house pass.new.seen from (result + 1)) }
+        ensures leads { Leads (instance_at pass.old.house pass.new.seen from) into.new.items
+            (instance_at pass.old.house pass.new.seen result) }
+        ensures full { result < length pass.new.seen →
+            vec_capacity into.old < length (deltas_between pass.old.house pass.new.seen from (result + 1)) }
         ensures capacity { vec_capacity into.new ≡ vec_capacity into.old }
     {
         let shared = self.take(rt, &mut pass.seat);
@@ -73,8 +75,10 @@ impl Desk {
         ensures reached { (from ≤ result) × (result ≤ until) }
         ensures moves { from < until → from < result }
         ensures items { into.new.items ≡ deltas_between pass.old.house pass.old.seen from result }
-        ensures leads { Leads (instance_at pass.old.house pass.old.seen from) into.new.items (instance_at pass.old.house pass.old.seen result) }
-        ensures full { result < until → vec_capacity into.old < length (deltas_between pass.old.house pass.old.seen from (result + 1)) }
+        ensures leads { Leads (instance_at pass.old.house pass.old.seen from) into.new.items
+            (instance_at pass.old.house pass.old.seen result) }
+        ensures full { result < until →
+            vec_capacity into.old < length (deltas_between pass.old.house pass.old.seen from (result + 1)) }
         ensures capacity { vec_capacity into.new ≡ vec_capacity into.old }
     {
         let shared = self.take(rt, &mut pass.seat);

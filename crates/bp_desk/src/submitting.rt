@@ -78,7 +78,8 @@ impl Desk {
         requires start { start.now ≡ opening pass.old.house }
         ensures pass { HasReadOn pass.old pass.new }
         ensures board { MatchResult result
-            (λ b. (arc_value b ≡ record { position = position; certificate = certificate }) × IsCertificateOf (instance_at pass.old.house pass.old.seen position) certificate)
+            (λ b. (arc_value b ≡ record { position = position; certificate = certificate }) ×
+            IsCertificateOf (instance_at pass.old.house pass.old.seen position) certificate)
             (IsUnfit (instance_at pass.old.house pass.old.seen position) certificate) }
     {
         pass.facts();

@@ -41,12 +41,14 @@ pub next_place : (n i : ℕ) → n - 1 - i ≡ n - (i + 1)
 next_place n i = omega arith
 
 -- what is put at the place of caller i + 1 stands there, and all others as before
-at_places : (P Q : ℕ → Actor → Type 0) (n i : ℕ) (xs : List Actor) (x : Actor) → length xs ≡ n → i < n → ((c : ℕ) (a : Actor) → P c a → Q c a) → ((c : ℕ) (a : Actor) → 1 ≤ c → c ≤ n → c ≢ i + 1 → P c (slice_index_or xs (n - c) a)) → Q (i + 1) x
+at_places : (P Q : ℕ → Actor → Type 0) (n i : ℕ) (xs : List Actor) (x : Actor) → length xs ≡ n → i < n → ((c : ℕ) (a : Actor) → P c a → Q c a) →
+    ((c : ℕ) (a : Actor) → 1 ≤ c → c ≤ n → c ≢ i + 1 → P c (slice_index_or xs (n - c) a)) → Q (i + 1) x
     → (c : ℕ) (a : Actor) → 1 ≤ c → c ≤ n → Q c (slice_index_or (slice_set xs (n - 1 - i) x) (n - c) a)
 at_places P Q n i xs x many lt on old new c a low high = dite (ℕ_discrete c (i + 1))
     (λ is.
     let e : n - c ≡ n - 1 - i = omega (arith, is, lt) in
-    let at : slice_index_or (slice_set xs (n - 1 - i) x) (n - c) a ≡ x = ap (λ k. slice_index_or (slice_set xs (n - 1 - i) x) k a) e ∙ set_same xs (n - 1 - i) x a (omega (arith, many, lt)) in
+    let at : slice_index_or (slice_set xs (n - 1 - i) x) (n - c) a ≡ x = ap (λ k. slice_index_or (slice_set xs (n - 1 - i) x) k a) e ∙
+    set_same xs (n - 1 - i) x a (omega (arith, many, lt)) in
     subst (λ k. Q k (slice_index_or (slice_set xs (n - 1 - i) x) (n - c) a)) (sym is) (subst (Q (i + 1)) (sym at) new))
     (λ other.
     let at = set_kept xs (n - 1 - i) x (n - c) a (λ e. absurd (other (omega (arith, e, low, high, lt)))) in
@@ -59,8 +61,10 @@ pub more_ready : (desk : TableId) (house : Inn) (sessions n i : ℕ) (G H : Hist
 more_ready desk house sessions n i G H xs x many lt grows old new c a low high = dite (ℕ_discrete c (i + 1))
     (λ is.
     let e : n - c ≡ n - 1 - i = omega (arith, is, lt) in
-    let at : slice_index_or (slice_set xs (n - 1 - i) x) (n - c) a ≡ x = ap (λ k. slice_index_or (slice_set xs (n - 1 - i) x) k a) e ∙ set_same xs (n - 1 - i) x a (omega (arith, many, lt)) in
-    subst (λ k. IsReady desk house sessions k H (slice_index_or (slice_set xs (n - 1 - i) x) (n - c) a)) (sym is) (subst (IsReady desk house sessions (i + 1) H) (sym at) new))
+    let at : slice_index_or (slice_set xs (n - 1 - i) x) (n - c) a ≡ x = ap (λ k. slice_index_or (slice_set xs (n - 1 - i) x) k a) e ∙
+    set_same xs (n - 1 - i) x a (omega (arith, many, lt)) in
+    subst (λ k. IsReady desk house sessions k H (slice_index_or (slice_set xs (n - 1 - i) x) (n - c) a)) (sym is)
+    (subst (IsReady desk house sessions (i + 1) H) (sym at) new))
     (λ other.
     let at = set_kept xs (n - 1 - i) x (n - c) a (λ e. absurd (other (omega (arith, e, low, high, lt)))) in
     subst (IsReady desk house sessions c H) (sym at) (ready_later desk house sessions c G H _ grows (old c a low (omega (arith, high, other)))))
@@ -74,7 +78,8 @@ still_ready desk house sessions n i G xs x many lt old new =
     at_places P P n i xs x many lt (λ c a r. r) (λ c a low high other. old c a low high) new
 
 -- the caller at a place
-pub at_place : (P : ℕ → Actor → Type 0) (xs : List Actor) → ((c : ℕ) (a : Actor) → 1 ≤ c → c ≤ length xs → P c (slice_index_or xs (length xs - c) a)) → (i : ℕ) (a : Actor) → i < length xs → P (length xs - i) (slice_index_or xs i a)
+pub at_place : (P : ℕ → Actor → Type 0) (xs : List Actor) → ((c : ℕ) (a : Actor) → 1 ≤ c → c ≤ length xs → P c (slice_index_or xs (length xs - c) a)) →
+    (i : ℕ) (a : Actor) → i < length xs → P (length xs - i) (slice_index_or xs i a)
 at_place P xs all i a lt =
     let e : length xs - (length xs - i) ≡ i = omega (arith, lt) in
     subst (λ k. P (length xs - i) (slice_index_or xs k a)) e (all (length xs - i) a (omega (arith, lt)) (omega (arith, lt)))
@@ -82,7 +87,8 @@ at_place P xs all i a lt =
 pub kept_none : (xs : List Actor) → KeepCommands xs xs
 kept_none xs = (refl, λ i a lt. refl)
 
-pub keep_set : (init xs : List Actor) (k : ℕ) (x d : Actor) → k < length xs → KeepCommands init xs → x.commands ≡ (slice_index_or xs k d).commands → KeepCommands init (slice_set xs k x)
+pub keep_set : (init xs : List Actor) (k : ℕ) (x d : Actor) → k < length xs → KeepCommands init xs → x.commands ≡ (slice_index_or xs k d).commands →
+    KeepCommands init (slice_set xs k x)
 keep_set init xs k x d lt kept same = (
   set_length xs k x ∙ kept.0,
   λ i a below. dite (ℕ_discrete i k)
@@ -95,7 +101,16 @@ keep_set init xs k x d lt kept same = (
 
 -- the opener's pass before anybody enrolled, and one caller later
 pub enrolled_none : (p : PassState) → p.free ≡ numbers_from 1 (CALLERS - 1) → HasEnrolledAll 0 p p
-enrolled_none p free = record { desk = refl; house = refl; caller = refl; calls = refl; ended = refl; free = free; order = λ o is. subst (HasInOrder (o ∷ [])) (sym is) (one_in_order o) }
+enrolled_none p free = record {
+  desk = refl;
+  house = refl;
+  caller = refl;
+  calls = refl;
+  ended = refl;
+  free = free;
+  order =
+      λ o is. subst (HasInOrder (o ∷ [])) (sym is) (one_in_order o);
+}
 
 lines_more : (o : Line) (i : ℕ) → first_lines o i ++ line_of (i + 1) Enrol Done ∷ [] ≡ first_lines o (i + 1)
 lines_more o i = subst (λ k. first_lines o i ++ line_of k Enrol Done ∷ [] ≡ first_lines o k) (let e : suc i ≡ i + 1 = omega arith in e) refl

@@ -12,7 +12,8 @@ use Rattle.bp_desk_run.specs.Finals.{IsClosedAfter}
 use Rattle.bp_desk_run.proofs.Closing.{all_back, closes}
 use Rattle.bp_desk_run.proofs.Finishing.{nothing_after}
 
-pub closed_after_round : (most position : ℕ) (p q : PassState) (r : Round) (book : Diary) → HasAllBack most p → HasAccounts p → HasAccounts q → IsRound p q position 1 r → book.house ≡ q.house → IsPrefix q.seen book.history → IsLegal book.house book.history
+pub closed_after_round : (most position : ℕ) (p q : PassState) (r : Round) (book : Diary) → HasAllBack most p → HasAccounts p → HasAccounts q →
+    IsRound p q position 1 r → book.house ≡ q.house → IsPrefix q.seen book.history → IsLegal book.house book.history
     → HasAccounts (record q { seen = book.history }) → IsClosedAfter p book r
 closed_after_round most position p q r book back before after round house begins legal at_end =
     let acted = (round_acts 1 position p q r round).0 in

@@ -1,5 +1,33 @@
 -- The first lines of a run: the opener's vector, and the Enrols in order.
-use Rattle.std.proofs.Common.{◌≡◌, ℕ, zero, suc, ◌+◌, ◌<◌, ◌≤◌, ◌==◌, Bool, true, false, cond, List, [], ◌∷◌, ◌++◌, length, refl, sym, ap, subst, ◌∙◌, arith, append-nil, append_assoc, length-append, eq-eqb}
+use Rattle.std.proofs.Common.{
+  ◌≡◌,
+  ℕ,
+  zero,
+  suc,
+  ◌+◌,
+  ◌<◌,
+  ◌≤◌,
+  ◌==◌,
+  Bool,
+  true,
+  false,
+  cond,
+  List,
+  [],
+  ◌∷◌,
+  ◌++◌,
+  length,
+  refl,
+  sym,
+  ap,
+  subst,
+  ◌∙◌,
+  arith,
+  append-nil,
+  append_assoc,
+  length-append,
+  eq-eqb,
+}
 use mathlib.Core.Logic.{dite}
 use native.Mathlib.Decide.{ℕ_discrete, dec_lt}
 use Rattle.std.proofs.lemmas.Bool.{ne_eqb}
@@ -27,13 +55,15 @@ enrol_at o (suc n) c low high = dite (ℕ_discrete c (suc n))
     (λ is.
     let e : suc n ≡ length (first_lines o n) = omega (arith, length-first_lines o n) in
     ap (line_at (first_lines o (suc n))) (is ∙ e) ∙ line_at-new (first_lines o n) (line_of (suc n) Enrol Done) ∙ ap (λ k. line_of k Enrol Done) (sym is))
-    (λ other. line_at-old (first_lines o n) (line_of (suc n) Enrol Done) c (omega (arith, other, high, length-first_lines o n)) ∙ enrol_at o n c low (omega (arith, other, high)))
+    (λ other. line_at-old (first_lines o n) (line_of (suc n) Enrol Done) c (omega (arith, other, high, length-first_lines o n)) ∙
+    enrol_at o n c low (omega (arith, other, high)))
 
 one_by : (c m : ℕ) (b : Bool) → (m == c) ≡ b → calls (line_of m Enrol Done ∷ []) c ≡ cond b (line_of m Enrol Done ∷ []) []
 one_by c m b e = ap (λ (t : Bool). cond t (line_of m Enrol Done ∷ []) []) e
 
 push_other : (o : Line) (n c : ℕ) → (suc n ≡ c → ⊥) → calls (first_lines o (suc n)) c ≡ calls (first_lines o n) c
-push_other o n c other = filter-append (is_by c) (first_lines o n) (line_of (suc n) Enrol Done ∷ []) ∙ ap (λ l. calls (first_lines o n) c ++ l) (one_by c (suc n) false (ne_eqb (suc n) c other)) ∙ append-nil (calls (first_lines o n) c)
+push_other o n c other = filter-append (is_by c) (first_lines o n) (line_of (suc n) Enrol Done ∷ []) ∙
+    ap (λ l. calls (first_lines o n) c ++ l) (one_by c (suc n) false (ne_eqb (suc n) c other)) ∙ append-nil (calls (first_lines o n) c)
 
 pub opener_calls : (o : Line) (n : ℕ) → o.entry.caller ≡ 0 → calls (first_lines o n) 0 ≡ o ∷ []
 opener_calls o zero by = ap (λ (b : Bool). cond b (o ∷ []) []) (eq-eqb o.entry.caller 0 by)
@@ -67,7 +97,8 @@ pub one_in_order : (o : Line) → HasInOrder (o ∷ []) (o ∷ [])
 one_in_order o = ([], [], refl, tt)
 
 -- where the Enrols stand in order, and each caller has just its own, they are the whole history
-pub just_enrolled : (o : Line) (n : ℕ) (F : History) → o.entry.caller ≡ 0 → HasInOrder (first_lines o n) F → calls F 0 ≡ o ∷ [] → ((c : ℕ) → 1 ≤ c → c ≤ n → calls F c ≡ line_of c Enrol Done ∷ [])
+pub just_enrolled : (o : Line) (n : ℕ) (F : History) → o.entry.caller ≡ 0 → HasInOrder (first_lines o n) F → calls F 0 ≡ o ∷ [] →
+    ((c : ℕ) → 1 ≤ c → c ≤ n → calls F c ≡ line_of c Enrol Done ∷ [])
     → ((c : ℕ) → n < c → calls F c ≡ []) → F ≡ first_lines o n
 just_enrolled o n F by has zeroth each above = just_these (first_lines o n) F has (λ c. dite (ℕ_discrete c 0)
     (λ z. subst (λ k. calls F k ≡ calls (first_lines o n) k) (sym z) (zeroth ∙ sym (opener_calls o n by)))

@@ -1,5 +1,30 @@
 -- The end of a caller, by what it did.
-use Rattle.std.proofs.Common.{◌≡◌, ◌≢◌, ℕ, ◌<◌, ◌≤◌, Bool, true, false, cond, List, [], ◌∷◌, ◌++◌, length, take, Option, Some, None, refl, sym, ap, subst, ◌∙◌, arith}
+use Rattle.std.proofs.Common.{
+  ◌≡◌,
+  ◌≢◌,
+  ℕ,
+  ◌<◌,
+  ◌≤◌,
+  Bool,
+  true,
+  false,
+  cond,
+  List,
+  [],
+  ◌∷◌,
+  ◌++◌,
+  length,
+  take,
+  Option,
+  Some,
+  None,
+  refl,
+  sym,
+  ap,
+  subst,
+  ◌∙◌,
+  arith,
+}
 use Rattle.atomic_table.specs.Seated.{TableId}
 use Rattle.bp_types.specs.House.{Inn}
 use Rattle.bp_types.specs.declared.command.Command.{Command}
@@ -21,10 +46,12 @@ use Rattle.bp_desk_run.specs.Actors.{AreTerms, IsReady, HasRun}
 pub same_pass : (p q : PassState) → Some p ≡ Some q → p ≡ q
 same_pass p q e = cc
 
-no_command_yet : (desk : TableId) (house : Inn) (sessions number : ℕ) (seen : History) (a : Actor) (r : IsReady desk house sessions number seen a) → commands_in r.pass.calls ≡ []
+no_command_yet : (desk : TableId) (house : Inn) (sessions number : ℕ) (seen : History) (a : Actor) (r : IsReady desk house sessions number seen a) →
+    commands_in r.pass.calls ≡ []
 no_command_yet desk house sessions number seen a r = ap commands_in r.enrolled
 
-pub session_ends : (desk : TableId) (house : Inn) (sessions number : ℕ) (seen : History) (a : Actor) (p left : PassState) (done : ℕ) (stop : Stop) (lead : ℕ) → IsReady desk house sessions number seen a → a.pass ≡ Some p → p.caller ≤ sessions → lead ≡ lead_of house
+pub session_ends : (desk : TableId) (house : Inn) (sessions number : ℕ) (seen : History) (a : Actor) (p left : PassState) (done : ℕ) (stop : Stop) (lead : ℕ)
+    → IsReady desk house sessions number seen a → a.pass ≡ Some p → p.caller ≤ sessions → lead ≡ lead_of house
     → IsSession lead a.commands.items p left done stop → (left.desk ≡ desk) × IsEnd house sessions number a.commands.items left done stop
 session_ends desk house sessions number seen a p left done stop lead r is low terms s =
     let same : r.pass ≡ p = same_pass r.pass p (sym r.pass_is ∙ is) in
@@ -47,7 +74,8 @@ session_ends desk house sessions number seen a p left done stop lead r is low te
       },
     )
 
-pub work_ends : (desk : TableId) (house : Inn) (sessions number : ℕ) (seen : History) (a : Actor) (p left : PassState) (memory : Bool) (lead : ℕ) → IsReady desk house sessions number seen a → a.pass ≡ Some p → sessions < p.caller → lead ≡ lead_of house
+pub work_ends : (desk : TableId) (house : Inn) (sessions number : ℕ) (seen : History) (a : Actor) (p left : PassState) (memory : Bool) (lead : ℕ) →
+    IsReady desk house sessions number seen a → a.pass ≡ Some p → sessions < p.caller → lead ≡ lead_of house
     → IsWork sessions lead p left memory → (left.desk ≡ desk) × IsEnd house sessions number a.commands.items left 0 (stop_of memory)
 work_ends desk house sessions number seen a p left memory lead r is high terms w =
     let same : r.pass ≡ p = same_pass r.pass p (sym r.pass_is ∙ is) in

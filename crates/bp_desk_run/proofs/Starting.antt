@@ -18,7 +18,8 @@ ok_weaker P Q (Ok a) f h = f a h
 ok_weaker P Q (Err e) f h = tt
 
 -- a board with the least prices of the house as it opens
-pub opens_with : (house : Inn) (b : Posted) (p : Program) → b.position ≡ 0 → p ≡ opening house → AreLeastPrices p b.certificate.prices → OpensWith house (opening_line b)
+pub opens_with : (house : Inn) (b : Posted) (p : Program) → b.position ≡ 0 → p ≡ opening house → AreLeastPrices p b.certificate.prices →
+    OpensWith house (opening_line b)
 opens_with house b p at is least = record {
   by = refl;
   at_start = ap Publish at;
@@ -27,7 +28,8 @@ opens_with house b p at is least = record {
     publishes = refl;
     claim = b.certificate;
     claims = refl;
-    prices = subst (λ (q : Program). AreLeastPrices q b.certificate.prices) (is ∙ sym (instance_at_start house) ∙ sym (ap (λ n. instance_of house (take n [])) at)) least;
+    prices = subst (λ (q : Program). AreLeastPrices q b.certificate.prices) (is ∙ sym (instance_at_start house) ∙
+        sym (ap (λ n. instance_of house (take n [])) at)) least;
     enough = omega arith;
   };
 }

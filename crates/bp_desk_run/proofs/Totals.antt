@@ -1,5 +1,43 @@
 -- The commands of a run, and those of its scripts.
-use Rattle.std.proofs.Common.{◌≡◌, ◌≢◌, ℕ, zero, suc, ◌+◌, ◌-◌, ◌<◌, ◌≤◌, ◌==◌, Bool, true, false, ◌&&◌, cond, List, [], ◌∷◌, ◌++◌, length, take, count_by, filter, All, Option, Some, None, is_some, refl, sym, ap, subst, ◌∙◌, arith, length-append, eq-eqb, slice_index_or}
+use Rattle.std.proofs.Common.{
+  ◌≡◌,
+  ◌≢◌,
+  ℕ,
+  zero,
+  suc,
+  ◌+◌,
+  ◌-◌,
+  ◌<◌,
+  ◌≤◌,
+  ◌==◌,
+  Bool,
+  true,
+  false,
+  ◌&&◌,
+  cond,
+  List,
+  [],
+  ◌∷◌,
+  ◌++◌,
+  length,
+  take,
+  count_by,
+  filter,
+  All,
+  Option,
+  Some,
+  None,
+  is_some,
+  refl,
+  sym,
+  ap,
+  subst,
+  ◌∙◌,
+  arith,
+  length-append,
+  eq-eqb,
+  slice_index_or,
+}
 use mathlib.Core.Logic.{dite}
 use native.Mathlib.Decide.{ℕ_discrete, dec_le}
 use Rattle.std.specs.List.{filter_map}
@@ -39,7 +77,8 @@ lengths (cs ∷ rest) (suc n) le =
 -- what all callers were given is what there is
 sum_given : (scripts : List (List Command)) (n : ℕ) → length scripts ≤ n → sum_below (given scripts) (suc n) ≡ all_commands scripts
 sum_given scripts n le =
-    let next = sum_below-cong (λ i. given scripts (i + 1)) (λ i. length (script_of scripts i)) n (λ i lt. let e : i + 1 ≡ suc i = omega arith in ap (given scripts) e) in
+    let next = sum_below-cong (λ i. given scripts (i + 1)) (λ i. length (script_of scripts i)) n (λ i lt. let e : i + 1 ≡ suc i = omega arith in
+    ap (given scripts) e) in
     omega (arith, sum_below-first (given scripts) n, next, lengths scripts n le)
 
 prefix_few : (xs ys : List Command) → IsPrefix xs ys → length xs ≤ length ys
@@ -50,32 +89,38 @@ same_prefix xs ys ([], is) le = sym (is ∙ Rattle.std.proofs.Common.append-nil 
 same_prefix xs ys (x ∷ rest, is) le = absurd (let n = ap length is in omega (arith, n, le, length-append xs (x ∷ rest)))
 
 -- nobody makes more commands than it was given
-within_given : (house : Inn) (scripts : List (List Command)) (workers : ℕ) (H : History) → IsDeskRun house scripts workers H → (c : ℕ) → length (commands_of H c) ≤ given scripts c
+within_given : (house : Inn) (scripts : List (List Command)) (workers : ℕ) (H : History) → IsDeskRun house scripts workers H → (c : ℕ) →
+    length (commands_of H c) ≤ given scripts c
 within_given house scripts workers H r zero = let n = ap length (r.no_command 0 (Rattle.std.proofs.Common.inl refl)) in omega (arith, n)
 within_given house scripts workers H r (suc i) = dite (dec_le (length scripts) i)
     (λ high. let n = ap length (r.no_command (suc i) (Rattle.std.proofs.Common.inr (omega (arith, high)))) in omega (arith, n))
     (λ low.
     let e : i + 1 ≡ suc i = omega arith in
-    let first : IsPrefix (commands_of H (suc i)) (script_of scripts i) = subst (λ k. IsPrefix (commands_of H k) (script_of scripts i)) e (r.in_order i (omega (arith, low))) in
+    let first : IsPrefix (commands_of H (suc i)) (script_of scripts i) =
+    subst (λ k. IsPrefix (commands_of H k) (script_of scripts i)) e (r.in_order i (omega (arith, low))) in
     prefix_few (commands_of H (suc i)) (script_of scripts i) first)
 
 callers_below : (H : History) (n : ℕ) → All (λ (x : Line). x.entry.caller ≤ n) H → All (λ (x : Line). x.entry.caller < suc n) H
 callers_below H n all i d lt = let le = all i d lt in omega (arith, le)
 
 -- the commands of a run, caller by caller
-by_caller : (house : Inn) (scripts : List (List Command)) (workers : ℕ) (H : History) → IsDeskRun house scripts workers H → commands H ≡ sum_below (λ c. length (commands_of H c)) (suc (length scripts + workers))
+by_caller : (house : Inn) (scripts : List (List Command)) (workers : ℕ) (H : History) → IsDeskRun house scripts workers H →
+    commands H ≡ sum_below (λ c. length (commands_of H c)) (suc (length scripts + workers))
 by_caller house scripts workers H r = commands_add_up H (suc (length scripts + workers)) (callers_below H (length scripts + workers) r.callers)
 
 -- a run has no more commands than its scripts
-pub commands_at_most : (house : Inn) (scripts : List (List Command)) (workers : ℕ) (H : History) → IsDeskRun house scripts workers H → commands H ≤ all_commands scripts
+pub commands_at_most : (house : Inn) (scripts : List (List Command)) (workers : ℕ) (H : History) → IsDeskRun house scripts workers H →
+    commands H ≤ all_commands scripts
 commands_at_most house scripts workers H r =
     let n = length scripts + workers in
     let le = sum_below-le (λ c. length (commands_of H c)) (given scripts) (suc n) (λ c low. within_given house scripts workers H r c) in
     omega (arith, by_caller house scripts workers H r, le, sum_given scripts n (omega arith))
 
 -- where a session lacks commands there are fewer
-pub commands_lacking : (house : Inn) (scripts : List (List Command)) (workers : ℕ) (H : History) → IsDeskRun house scripts workers H → (i : ℕ) → i < length scripts → commands_of H (i + 1) ≢ script_of scripts i → commands H < all_commands scripts
-commands_lacking house scripts workers H r i lt other = dite (dec_le (all_commands scripts) (commands H)) (λ le. absurd (other (whole le))) (λ less. omega (arith, less))
+pub commands_lacking : (house : Inn) (scripts : List (List Command)) (workers : ℕ) (H : History) → IsDeskRun house scripts workers H → (i : ℕ) →
+    i < length scripts → commands_of H (i + 1) ≢ script_of scripts i → commands H < all_commands scripts
+commands_lacking house scripts workers H r i lt other =
+    dite (dec_le (all_commands scripts) (commands H)) (λ le. absurd (other (whole le))) (λ less. omega (arith, less))
   where
     n : ℕ
     n = length scripts + workers

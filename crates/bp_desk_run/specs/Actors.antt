@@ -56,15 +56,18 @@ pub record HasRun (desk : TableId) (house : Inn) (sessions number : ℕ) (a : Ac
 
 -- all callers of a slice are ready: the last place is caller 1's
 abbrev pub AreReady : TableId → Inn → ℕ → History → List Actor → Type 0
-AreReady desk house sessions seen actors = (c : ℕ) (a : Actor) → 1 ≤ c → c ≤ length actors → IsReady desk house sessions c seen (slice_index_or actors (length actors - c) a)
+AreReady desk house sessions seen actors = (c : ℕ) (a : Actor) → 1 ≤ c → c ≤ length actors →
+    IsReady desk house sessions c seen (slice_index_or actors (length actors - c) a)
 
 -- all of them have run
 abbrev pub HaveRun : TableId → Inn → ℕ → List Actor → Type 0
-HaveRun desk house sessions actors = (c : ℕ) (a : Actor) → 1 ≤ c → c ≤ length actors → HasRun desk house sessions c (slice_index_or actors (length actors - c) a)
+HaveRun desk house sessions actors = (c : ℕ) (a : Actor) → 1 ≤ c → c ≤ length actors →
+    HasRun desk house sessions c (slice_index_or actors (length actors - c) a)
 
 -- the commands of all are what they were
 abbrev pub KeepCommands : List Actor → List Actor → Type 0
-KeepCommands old new = (length new ≡ length old) × ((i : ℕ) (a : Actor) → i < length old → (slice_index_or new i a).commands ≡ (slice_index_or old i a).commands)
+KeepCommands old new = (length new ≡ length old) ×
+    ((i : ℕ) (a : Actor) → i < length old → (slice_index_or new i a).commands ≡ (slice_index_or old i a).commands)
 
 -- the opener's pass after it enrolled a caller and met it
 pub record HasEnrolled (number : ℕ) (old new : PassState) : Type 0 where

@@ -42,12 +42,14 @@ pub record IsDeskRun (house : Inn) (scripts : List (List Command)) (workers : �
   -- each of them has a Leave as its last entry
   pub left : (c : ℕ) → 1 ≤ c → c ≤ length scripts + workers → LeavesLast H c
   -- where a worker leaves, all sessions have left
-  pub sessions_first : (i : ℕ) → i < length H → is_leave (line_at H i).entry.act ≡ true → length scripts < (line_at H i).entry.caller → HaveLeft (take i H) (length scripts)
+  pub sessions_first : (i : ℕ) → i < length H → is_leave (line_at H i).entry.act ≡ true → length scripts < (line_at H i).entry.caller →
+      HaveLeft (take i H) (length scripts)
   -- the commands of a session are the first ones of its script, each once and in order
   pub in_order : (i : ℕ) → i < length scripts → IsPrefix (commands_of H (i + 1)) (script_of scripts i)
   -- nobody else makes a command
   pub no_command : (c : ℕ) → (c ≡ 0) ⊎ (length scripts < c) → commands_of H c ≡ []
-  -- each vector has the least prices of the instance at its position; between the last vector's position and that of one by a session or a worker stand `lead` changes at least
+  -- each vector has the least prices of the instance at its position; between the last vector's position and that of
+  -- one by a session or a worker stand `lead` changes at least
   pub least_prices : (i : ℕ) → i < length H → is_publish (line_at H i) ≡ true
       → IsLeastVector house (if (line_at H i).entry.caller == 0 then 0 else lead_of house) (take i H) (line_at H i)
   -- the opener opens the desk, and may publish once more at the end
@@ -69,7 +71,8 @@ IsClosed H = changes_after H (last_position H) ≡ 0
 abbrev pub NoEntryLeft : Inn → List (List Command) → History → Type 0
 NoEntryLeft house scripts H = (commands H ≡ house.limits.entries) × LacksCommands scripts H
 
--- the second: there are as many vectors as the house allows, `stale_after` changes at least stand after the last one's position, and some session has not made all of its commands
+-- the second: there are as many vectors as the house allows, `stale_after` changes at least stand after the last one's
+-- position, and some session has not made all of its commands
 abbrev pub NoVectorLeft : Inn → List (List Command) → History → Type 0
 NoVectorLeft house scripts H =
     (vectors H ≡ house.limits.publications) × (house.limits.stale_after ≤ changes_after H (last_position H)) × LacksCommands scripts H

@@ -1,4 +1,5 @@
 pub mod DeskRun
+pub mod RightRun
 pub mod Laws
 pub mod Beginnings
 pub mod Endings

@@ -42,8 +42,10 @@ impl Actor {
         unit: u64,
         gate: &G,
     )
-        requires { (house : _) × (number : ℕ) × (seen : _) × IsReady desk.now house sessions number seen self.old × AreTerms house sessions lead unit }
-        ensures run { (house : _) (number : ℕ) (seen : _) → IsReady desk.now house sessions number seen self.old → AreTerms house sessions lead unit → HasRun desk.now house sessions number self.new }
+        requires { (house : _) × (number : ℕ) × (seen : _) × IsReady desk.now house sessions number seen self.old ×
+            AreTerms house sessions lead unit }
+        ensures run { (house : _) (number : ℕ) (seen : _) → IsReady desk.now house sessions number seen self.old →
+            AreTerms house sessions lead unit → HasRun desk.now house sessions number self.new }
         ensures commands { self.new.commands ≡ self.old.commands }
     {
         let Some(pass) = self.pass.take() else {

@@ -43,9 +43,12 @@ pub fn run_callers<R: Threads + Wait + Sync, G: Gate, L: Ledger>(
     requires solver { (solver.now.flow.program ≡ opening house) × IsSettled solver.now }
     requires few { length actors.old ≤ MOST_ACTORS }
     requires sessions { sessions ≤ length actors.old }
-    requires range { (i : ℕ) (a : Actor) → i < length actors.old → AreInRange house (slice_index_or actors.old i a).commands.items }
-    requires workers { (c : ℕ) (a : Actor) → sessions < c → c ≤ length actors.old → (slice_index_or actors.old (length actors.old - c) a).commands.items ≡ [] }
-    ensures ran { IfOk result (λ r. (scripts : List (List Command)) (workers : ℕ) → AreScripted scripts workers sessions actors.old → ComesTo house scripts workers r.book.history r.whole) }
+    requires range { (i : ℕ) (a : Actor) → i < length actors.old →
+        AreInRange house (slice_index_or actors.old i a).commands.items }
+    requires workers { (c : ℕ) (a : Actor) → sessions < c → c ≤ length actors.old →
+        (slice_index_or actors.old (length actors.old - c) a).commands.items ≡ [] }
+    ensures ran { IfOk result (λ r. (scripts : List (List Command)) (workers : ℕ) →
+        AreScripted scripts workers sessions actors.old → ComesTo house scripts workers r.book.history r.whole) }
     ensures house { IfOk result (λ r. r.book.house ≡ house) }
 {
     let limits = house.limits();

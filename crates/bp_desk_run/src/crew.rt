@@ -10,7 +10,17 @@ ghost use Rattle.bp_core.specs.Lines.{calls};
 ghost use Rattle.bp_core.specs.Acting.{line_of};
 ghost use Rattle.bp_optimise.specs.Sessions.{AreInRange};
 ghost use Rattle.bp_desk_run.specs.Endings.{IsEnded};
-ghost use Rattle.bp_desk_run.specs.Actors.{AreTerms, IsReady, HasRun, AreReady, HaveRun, KeepCommands, HasEnrolled, HasEnrolledAll, HasJoined};
+ghost use Rattle.bp_desk_run.specs.Actors.{
+  AreTerms,
+  IsReady,
+  HasRun,
+  AreReady,
+  HaveRun,
+  KeepCommands,
+  HasEnrolled,
+  HasEnrolledAll,
+  HasJoined,
+};
 
 use crate::actor::{Actor, MOST_ACTORS};
 use crate::start::new_optimiser;
@@ -63,9 +73,13 @@ impl Actor {
     /// Meets the opener's pass again.
     fn meet(&mut self, alloc: Global, desk: &Desk, opener: &mut Pass)
         requires desk { opener.old.desk ≡ desk.now }
-        requires ready { (house : _) × (sessions : ℕ) × (number : ℕ) × IsReady desk.now house sessions number opener.old.seen self.old }
+        requires ready { (house : _) × (sessions : ℕ) × (number : ℕ) ×
+            IsReady desk.now house sessions number opener.old.seen self.old }
         ensures opener { opener.new ≡ opener.old }
-        ensures ready { (house : _) (sessions number : ℕ) → IsReady desk.now house sessions number opener.old.seen self.old → IsReady desk.now house sessions number opener.old.seen self.new × (calls opener.old.seen number ≡ line_of number Enrol Done ∷ []) }
+        ensures ready { (house : _) (sessions number : ℕ) →
+            IsReady desk.now house sessions number opener.old.seen self.old →
+            IsReady desk.now house sessions number opener.old.seen self.new ×
+            (calls opener.old.seen number ≡ line_of number Enrol Done ∷ []) }
         ensures commands { self.new.commands ≡ self.old.commands }
     {
         let Some(mut pass) = self.pass.take() else {
@@ -83,8 +97,10 @@ impl Actor {
         requires desk { opener.old.desk ≡ desk.now }
         requires run { (house : _) × (sessions : ℕ) × (number : ℕ) × HasRun desk.now house sessions number self.old }
         ensures opener { HasJoined opener.old opener.new }
-        ensures ended { (house : _) (sessions number : ℕ) → HasRun desk.now house sessions number self.old → IsEnded house sessions number self.old.commands.items opener.new self.old.stop }
-        ensures others { (house : _) (sessions number : ℕ) (cs : _) (stop : _) → IsEnded house sessions number cs opener.old stop → IsEnded house sessions number cs opener.new stop }
+        ensures ended { (house : _) (sessions number : ℕ) → HasRun desk.now house sessions number self.old →
+            IsEnded house sessions number self.old.commands.items opener.new self.old.stop }
+        ensures others { (house : _) (sessions number : ℕ) (cs : _) (stop : _) →
+            IsEnded house sessions number cs opener.old stop → IsEnded house sessions number cs opener.new stop }
         ensures commands { self.new.commands ≡ self.old.commands }
         ensures stop { self.new.stop ≡ self.old.stop }
     {
@@ -109,8 +125,10 @@ pub fn enrol_all<R: Wait>(
     requires opener { opener.old.caller ≡ 0 }
     requires free { opener.old.free ≡ numbers_from 1 (CALLERS - 1) }
     requires few { length actors.old ≤ MOST_ACTORS }
-    requires range { (i : ℕ) (a : Actor) → i < length actors.old → AreInRange opener.old.house (slice_index_or actors.old i a).commands.items }
-    requires workers { (c : ℕ) (a : Actor) → sessions < c → c ≤ length actors.old → (slice_index_or actors.old (length actors.old - c) a).commands.items ≡ [] }
+    requires range { (i : ℕ) (a : Actor) → i < length actors.old →
+        AreInRange opener.old.house (slice_index_or actors.old i a).commands.items }
+    requires workers { (c : ℕ) (a : Actor) → sessions < c → c ≤ length actors.old →
+        (slice_index_or actors.old (length actors.old - c) a).commands.items ≡ [] }
     requires solver { (solver.now.flow.program ≡ opening opener.old.house) × IsSettled solver.now }
     ensures ready { OnOk result (AreReady desk.now opener.old.house sessions opener.new.seen actors.new) }
     ensures opener { OnOk result (HasEnrolledAll (length actors.old) opener.old opener.new) }
@@ -130,7 +148,9 @@ pub fn meet_all(alloc: Global, desk: &Desk, opener: &mut Pass, actors: &mut [Act
     requires few { length actors.old ≤ MOST_ACTORS }
     requires ready { (house : _) × (sessions : ℕ) × AreReady desk.now house sessions opener.old.seen actors.old }
     ensures opener { opener.new ≡ opener.old }
-    ensures ready { (house : _) (sessions : ℕ) → AreReady desk.now house sessions opener.old.seen actors.old → AreReady desk.now house sessions opener.old.seen actors.new × ((c : ℕ) → 1 ≤ c → c ≤ length actors.old → calls opener.old.seen c ≡ line_of c Enrol Done ∷ []) }
+    ensures ready { (house : _) (sessions : ℕ) → AreReady desk.now house sessions opener.old.seen actors.old →
+        AreReady desk.now house sessions opener.old.seen actors.new ×
+        ((c : ℕ) → 1 ≤ c → c ≤ length actors.old → calls opener.old.seen c ≡ line_of c Enrol Done ∷ []) }
     ensures commands { KeepCommands actors.old actors.new }
 {
     let callers = actors.len();
@@ -140,7 +160,8 @@ pub fn meet_all(alloc: Global, desk: &Desk, opener: &mut Pass, actors: &mut [Act
     }
 }
 
-/// Runs all actors beside one another, each in a thread of its own where one can be made. Where none can, the places are visited from the last to the
+/// Runs all actors beside one another, each in a thread of its own where one can be made. Where none can, the places
+/// are visited from the last to the
 /// first: so sessions stand last and workers first, since a worker waits for the sessions.
 pub fn run_all<R: Threads + Wait + Sync, G: Gate>(
     rt: &R,
@@ -152,8 +173,10 @@ pub fn run_all<R: Threads + Wait + Sync, G: Gate>(
     unit: u64,
     gate: &G,
 )
-    requires ready { (house : _) × (seen : _) × AreReady desk.now house sessions seen actors.old × AreTerms house sessions lead unit }
-    ensures run { (house : _) (seen : _) → AreReady desk.now house sessions seen actors.old → AreTerms house sessions lead unit → HaveRun desk.now house sessions actors.new }
+    requires ready { (house : _) × (seen : _) × AreReady desk.now house sessions seen actors.old ×
+        AreTerms house sessions lead unit }
+    ensures run { (house : _) (seen : _) → AreReady desk.now house sessions seen actors.old →
+        AreTerms house sessions lead unit → HaveRun desk.now house sessions actors.new }
     ensures commands { KeepCommands actors.old actors.new }
 {
     let threads = actors.len();
@@ -165,8 +188,11 @@ pub fn run_all<R: Threads + Wait + Sync, G: Gate>(
         actors,
         threads,
         &|_: usize, actor: &mut Actor|
-            requires { (house : _) × (number : ℕ) × (seen : _) × IsReady desk.now house sessions number seen actor.old × AreTerms house sessions lead unit }
-            ensures run { (house : _) (number : ℕ) (seen : _) → IsReady desk.entry.now house sessions number seen actor.old → AreTerms house sessions lead unit → HasRun desk.entry.now house sessions number actor.new }
+            requires { (house : _) × (number : ℕ) × (seen : _) ×
+                IsReady desk.now house sessions number seen actor.old × AreTerms house sessions lead unit }
+            ensures run { (house : _) (number : ℕ) (seen : _) →
+                IsReady desk.entry.now house sessions number seen actor.old → AreTerms house sessions lead unit →
+                HasRun desk.entry.now house sessions number actor.new }
             ensures commands { actor.new.commands ≡ actor.old.commands }
         { actor.run(rt, alloc, desk, sessions, lead, unit, gate) },
     );
@@ -178,8 +204,13 @@ pub fn join_all(desk: &Desk, opener: &mut Pass, actors: &mut [Actor])
     requires few { length actors.old ≤ MOST_ACTORS }
     requires run { (house : _) × (sessions : ℕ) × HaveRun desk.now house sessions actors.old }
     ensures opener { HasJoined opener.old opener.new }
-    ensures ended { (house : _) (sessions c : ℕ) (a : Actor) → HaveRun desk.now house sessions actors.old → 1 ≤ c → c ≤ length actors.old → IsEnded house sessions c (slice_index_or actors.old (length actors.old - c) a).commands.items opener.new (slice_index_or actors.old (length actors.old - c) a).stop }
-    ensures stops { (length actors.new ≡ length actors.old) × ((i : ℕ) (a : Actor) → i < length actors.old → (slice_index_or actors.new i a).stop ≡ (slice_index_or actors.old i a).stop) }
+    ensures ended { (house : _) (sessions c : ℕ) (a : Actor) → HaveRun desk.now house sessions actors.old → 1 ≤ c →
+        c ≤ length actors.old →
+        IsEnded house sessions c (slice_index_or actors.old (length actors.old - c) a).commands.items opener.new
+        (slice_index_or actors.old (length actors.old - c) a).stop }
+    ensures stops { (length actors.new ≡ length actors.old) ×
+        ((i : ℕ) (a : Actor) → i < length actors.old →
+        (slice_index_or actors.new i a).stop ≡ (slice_index_or actors.old i a).stop) }
 {
     let callers = actors.len();
     for i in 0..callers {

@@ -48,8 +48,10 @@ pub fn has_closed(round: &Round) -> bool
 
 /// Whether an actor stopped so.
 pub fn any_stopped(actors: &[Actor], stop: Stop) -> bool
-    ensures yes { result ≡ true → (i : ℕ) × (i < length actors.now) × ((a : Actor) → (slice_index_or actors.now i a).stop ≡ stop) }
-    ensures no { result ≡ false → (i : ℕ) (a : Actor) → i < length actors.now → (slice_index_or actors.now i a).stop ≢ stop }
+    ensures yes { result ≡ true → (i : ℕ) × (i < length actors.now) ×
+        ((a : Actor) → (slice_index_or actors.now i a).stop ≡ stop) }
+    ensures no { result ≡ false → (i : ℕ) (a : Actor) → i < length actors.now →
+        (slice_index_or actors.now i a).stop ≢ stop }
 {
     let mut i = 0;
     while i < actors.len() {
@@ -63,8 +65,10 @@ pub fn any_stopped(actors: &[Actor], stop: Stop) -> bool
 
 /// Whether all actors finished.
 pub fn all_finished(actors: &[Actor]) -> bool
-    ensures yes { result ≡ true → (i : ℕ) (a : Actor) → i < length actors.now → (slice_index_or actors.now i a).stop ≡ Stop.Finished }
-    ensures no { result ≡ false → (i : ℕ) × (i < length actors.now) × ((a : Actor) → (slice_index_or actors.now i a).stop ≢ Stop.Finished) }
+    ensures yes { result ≡ true → (i : ℕ) (a : Actor) → i < length actors.now →
+        (slice_index_or actors.now i a).stop ≡ Stop.Finished }
+    ensures no { result ≡ false → (i : ℕ) × (i < length actors.now) ×
+        ((a : Actor) → (slice_index_or actors.now i a).stop ≢ Stop.Finished) }
 {
     let mut i = 0;
     while i < actors.len() {

@@ -3,6 +3,17 @@
 //!
 //! Callers have numbers: 0 is the opener's, which opens and closes the desk, the sessions have 1 and on, and the
 //! workers the numbers after theirs. What a history is that a run may leave is defined in `specs/DeskRun.antt`.
+//!
+//! A whole run, whose commands were tested against the house.
+//!
+//! ```
+//! let house = house(alloc, limits)?;
+//! let scripts = scripts(alloc, &house, sessions)?;
+//! match run_desk(rt, alloc, house, scripts, workers, &NoGate) {
+//!     Ok(ran) => Ok(ran),
+//!     Err(_) => Err("memory".into()),
+//! }
+//! ```
 #![tactic(auto)]
 
 mod actor;

@@ -38,7 +38,8 @@ pub fn run_desk<R: Threads + Wait + Sync, G: Gate>(
     requires range { All (AreInRange house) scripts.items }
     ensures house { IfOk result (λ r. r.book.house ≡ house) }
     ensures run { IfOk result (λ r. IsDeskRun house scripts.items workers r.book.history) }
-    ensures whole { IfOk result (λ r. r.whole ≡ true → IsComplete scripts.items r.book.history × IsClosed r.book.history) }
+    ensures whole { IfOk result (λ r. r.whole ≡ true → IsComplete scripts.items r.book.history ×
+        IsClosed r.book.history) }
     ensures cut { IfOk result (λ r. r.whole ≡ false → IsCut house scripts.items r.book.history) }
     ensures vectors { IfOk result (λ r. vectors r.book.history ≤ 2 + all_commands scripts.items / lead_of house) }
     ensures room { IfOk result (λ r. HasRoomFor house (all_commands scripts.items) → r.whole ≡ true) }
@@ -64,7 +65,8 @@ fn counted_run<R: Threads + Wait + Sync, G: Gate, L: Ledger>(
     requires range { All (AreInRange house) scripts.items }
     ensures house { IfOk result (λ r. r.book.house ≡ house) }
     ensures run { IfOk result (λ r. IsDeskRun house scripts.items workers r.book.history) }
-    ensures whole { IfOk result (λ r. r.whole ≡ true → IsComplete scripts.items r.book.history × IsClosed r.book.history) }
+    ensures whole { IfOk result (λ r. r.whole ≡ true → IsComplete scripts.items r.book.history ×
+        IsClosed r.book.history) }
     ensures cut { IfOk result (λ r. r.whole ≡ false → IsCut house scripts.items r.book.history) }
     ensures vectors { IfOk result (λ r. vectors r.book.history ≤ 2 + all_commands scripts.items / lead_of house) }
     ensures room { IfOk result (λ r. HasRoomFor house (all_commands scripts.items) → r.whole ≡ true) }

@@ -1,4 +1,16 @@
 //! The edges of the program: where bytes come from and go to.
+//!
+//! A sink in memory whose second and fourth put fail.
+//!
+//! ```
+//! let mut sink = MemorySink::new([2, 4].to_vec(alloc)?);
+//! for (piece, taken) in &PUTS {
+//!     assert!(rt;
+//!         sink.put(alloc, piece.as_bytes()).is_ok() == *taken,
+//!         "{piece}"
+//!     );
+//! }
+//! ```
 #![tactic(auto)]
 
 mod file_shelf;

@@ -1,5 +1,22 @@
 //! A shelf in memory.
-ghost use Rattle.std.specs.Prelude.{◌≡◌, ◌⊎◌, ◌+◌, ◌≤◌, ℕ, true, false, [], take, length, Some, IfOk, IsErrOf, IsSome, IsNone, IsSomeAnd};
+ghost use Rattle.std.specs.Prelude.{
+  ◌≡◌,
+  ◌⊎◌,
+  ◌+◌,
+  ◌≤◌,
+  ℕ,
+  true,
+  false,
+  [],
+  take,
+  length,
+  Some,
+  IfOk,
+  IsErrOf,
+  IsSome,
+  IsNone,
+  IsSomeAnd,
+};
 ghost use Rattle.std.specs.Option.{option_copied, ForSome};
 ghost use Rattle.std.specs.FinMap as map;
 ghost use Rattle.bp_edges.specs.Held.{no_fetch};
@@ -84,7 +101,8 @@ fn read_held(
     ensures short { IfOk result (λ reading. length reading.bytes.items ≤ limit + 1) }
     ensures failing { fails ≡ true → IfOk result (λ reading. reading.failed ≡ true) }
     ensures nothing { IfOk result (λ reading. reading.failed ≡ true → length reading.bytes.items ≡ 0) }
-    ensures absent { fails ≡ false → IfOk result (λ reading. reading.failed ≡ true → IsNone (map.get (files_of files.now) name.now)) }
+    ensures absent { fails ≡ false →
+        IfOk result (λ reading. reading.failed ≡ true → IsNone (map.get (files_of files.now) name.now)) }
     ensures read { IfOk result (λ reading. reading.failed ≡ false →
         IsSomeAnd (map.get (files_of files.now) name.now) (λ text. reading.bytes.items ≡ take (limit + 1) text)) }
 {
@@ -113,10 +131,12 @@ impl Shelf for MemoryShelf {
 
     fn fetch(&mut self, alloc: Global, name: &str, limit: u64) -> Result<Vec<u8>, ShelfError>
         ensures within { IfOk result (λ bytes. length bytes.items ≤ limit) }
-        ensures answers { ForSome (Some (files_of self.old.files)) (λ files. Answers (map.get files name.now) limit result) }
+        ensures answers { ForSome (Some (files_of self.old.files))
+            (λ files. Answers (map.get files name.now) limit result) }
 
         // It fails at the calls that the list names and at names that it does not hold, and takes nothing then.
-        ensures listed { NextFails self.old.schedule → IsErrOf result ShelfError.Failed ⊎ IsErrOf result ShelfError.Memory }
+        ensures listed { NextFails self.old.schedule →
+            IsErrOf result ShelfError.Failed ⊎ IsErrOf result ShelfError.Memory }
         ensures failed_for { IsErrOf result ShelfError.Failed →
             NextFails self.old.schedule ⊎ IsNone (map.get (files_of self.old.files) name.now) }
         ensures none_taken { IsErrOf result ShelfError.Failed → self.new.tally.last.taken ≡ 0 }

@@ -1,5 +1,20 @@
 //! Bytes that were read from a file.
-ghost use Rattle.std.specs.Prelude.{◌≡◌, ◌+◌, ◌<◌, ◌≤◌, [], true, false, take, length, Some, IfOk, IfSome, IfNone, OnSome};
+ghost use Rattle.std.specs.Prelude.{
+  ◌≡◌,
+  ◌+◌,
+  ◌<◌,
+  ◌≤◌,
+  [],
+  true,
+  false,
+  take,
+  length,
+  Some,
+  IfOk,
+  IfSome,
+  IfNone,
+  OnSome,
+};
 ghost use Rattle.std.specs.Option.{ForSome};
 ghost use Rattle.std.specs.Io.KnownBytes.{IsAtEnd};
 ghost use Rattle.bp_edges.specs.Reading.{TakesOver};

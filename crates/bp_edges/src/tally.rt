@@ -1,5 +1,20 @@
 //! What a shelf counts of its fetches.
-ghost use Rattle.std.specs.Prelude.{◌≡◌, ◌+◌, ◌≤◌, ◌↔◌, ℕ, List, true, false, take, length, IfOk, IsErrOf, Some, string_bytes};
+ghost use Rattle.std.specs.Prelude.{
+  ◌≡◌,
+  ◌+◌,
+  ◌≤◌,
+  ◌↔◌,
+  ℕ,
+  List,
+  true,
+  false,
+  take,
+  length,
+  IfOk,
+  IsErrOf,
+  Some,
+  string_bytes,
+};
 ghost use Rattle.bp_edges.specs.Counts.{raised, Rose};
 ghost use Rattle.bp_edges.specs.Held.{no_fetch};
 ghost use Rattle.bp_edges.specs.Fetching.{Answers, CountsFetch, Remembers};
@@ -82,7 +97,8 @@ impl Tally {
         requires { length reading.bytes.items ≤ limit + 1 }
 
         ensures within { IfOk result (λ bytes. length bytes.items ≤ limit) }
-        ensures answers { (text : List ℕ) → reading.bytes.items ≡ take (limit + 1) text → Answers (Some text) limit result }
+        ensures answers { (text : List ℕ) → reading.bytes.items ≡ take (limit + 1) text →
+            Answers (Some text) limit result }
         ensures failed { IsErrOf result ShelfError.Failed ↔ (reading.failed ≡ true) }
         ensures taken { IsErrOf result ShelfError.Failed → self.new.last.taken ≡ length reading.bytes.items }
         ensures memory { ¬ IsErrOf result ShelfError.Memory }

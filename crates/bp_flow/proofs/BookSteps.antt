@@ -23,7 +23,8 @@ fewer_flow p s units flow =
       within_forecast = flow.within_forecast;
     }
 
-pub booked_balance : (p q r : Priced) (j forecast sold units : ℕ) (s : Span) → IsSolvedFlow p → j < length p.flow.program.stays → (stay_at p.flow.program j).span ≡ s → HasUnits p.flow.program s units → units ≤ slice_index p.flow.sell j → sold ≡ slice_index p.flow.sell j →
+pub booked_balance : (p q r : Priced) (j forecast sold units : ℕ) (s : Span) → IsSolvedFlow p → j < length p.flow.program.stays →
+    (stay_at p.flow.program j).span ≡ s → HasUnits p.flow.program s units → units ≤ slice_index p.flow.sell j → sold ≡ slice_index p.flow.sell j →
     q ≡ fewer p s units → SetsDemand q r j forecast (sold - units) → IsBalanced r.flow
 booked_balance p q r j forecast sold units s solved h span_is enough some sold_is is sets =
     let P : Priced → Type 0 = λ x. SetsDemand x r j forecast (sold - units) in
@@ -42,7 +43,8 @@ booked_balance p q r j forecast sold units s solved h span_is enough some sold_i
         let carries = demand_carries m r j forecast (sold - units) n (fewer_flow p s units solved.priced.flow) h set in
         omega (arith, carries, spans, spans_too, parts, room_falls p.flow.program s units n enough n_in, solved.balanced n n_in, same_rooms)
 
-pub booked_slack : (p q r : Priced) (j forecast sold units : ℕ) (s : Span) → IsSolvedFlow p → j < length p.flow.program.stays → units ≤ slice_index p.flow.sell j → sold ≡ slice_index p.flow.sell j → forecast ≡ (stay_at p.flow.program j).forecast - units →
+pub booked_slack : (p q r : Priced) (j forecast sold units : ℕ) (s : Span) → IsSolvedFlow p → j < length p.flow.program.stays →
+    units ≤ slice_index p.flow.sell j → sold ≡ slice_index p.flow.sell j → forecast ≡ (stay_at p.flow.program j).forecast - units →
     q ≡ fewer p s units → SetsDemand q r j forecast (sold - units) → IsSlack r.flow (slice_index r.potentials)
 booked_slack p q r j forecast sold units s solved h some sold_is forecast_is is sets =
     let m : Priced = fewer p s units in

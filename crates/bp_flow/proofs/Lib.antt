@@ -8,5 +8,6 @@ pub mod Rising
 pub mod Cold
 pub mod Carrying
 pub mod Certified
+pub mod Settled
 pub mod WaySteps
 pub mod BookSteps

@@ -41,7 +41,8 @@ rise_stays a b from to units most cut (suc k) h ne =
       ]
     ]
 
-rises_fall : (a b : ℕ → ℕ) (from to units most : ℕ) → IsCut a b from to units most → from < most → sum_below (rise_of b) most + units ≡ sum_below (rise_of a) most
+rises_fall : (a b : ℕ → ℕ) (from to units most : ℕ) → IsCut a b from to units most → from < most →
+    sum_below (rise_of b) most + units ≡ sum_below (rise_of a) most
 rises_fall a b from to units most cut h =
     let same = sum_below-at (rise_of b) (rise_of a) most from h (rise_stays a b from to units most cut) in
     omega (arith, same, rise_falls a b from to units most cut)
@@ -59,8 +60,10 @@ lack_falls true has wants units less = omega (arith, less)
 lack_falls false has wants units less = omega (arith, less)
 
 -- a whole shortage is cut out of what is lacking
-shortage_cut : (program : Program) (was now : List ℕ) (up : Bool) (night to units : ℕ) → IsShortage program was up night to units → HasAll up program.rooms was to → ((n : ℕ) → n < night → slice_index was n ≡ slice_index program.rooms n)
-    → ((n : ℕ) → n < length program.rooms → slice_index now n ≡ room_moved was (record { from = night; to = to }) up units n) → IsCut (lack_at up was program.rooms) (lack_at up now program.rooms) night to units (length program.rooms)
+shortage_cut : (program : Program) (was now : List ℕ) (up : Bool) (night to units : ℕ) → IsShortage program was up night to units →
+    HasAll up program.rooms was to → ((n : ℕ) → n < night → slice_index was n ≡ slice_index program.rooms n)
+    → ((n : ℕ) → n < length program.rooms → slice_index now n ≡ room_moved was (record { from = night; to = to }) up units n) →
+    IsCut (lack_at up was program.rooms) (lack_at up now program.rooms) night to units (length program.rooms)
 shortage_cut program was now up night to units shortage whole done at =
     let span : Span = record { from = night; to = to } in
     let lack : ℕ → ℕ → ℕ = λ n x. lacking up x (slice_index program.rooms n) in
@@ -80,33 +83,43 @@ shortage_cut program was now up night to units shortage whole done at =
     lacks_none false has wants same = omega (arith, same)
 
 -- and what other nights have too many, or lack, stays
-other_stays : (program : Program) (was now : List ℕ) (up other : Bool) (night to units : ℕ) → ((has wants : ℕ) → units ≤ lacking up has wants → lacking other (moved has up units) wants ≡ lacking other has wants) → IsShortage program was up night to units
-    → ((n : ℕ) → n < length program.rooms → slice_index now n ≡ room_moved was (record { from = night; to = to }) up units n) → (k : ℕ) → k < length program.rooms → lack_at other now program.rooms k ≡ lack_at other was program.rooms k
+other_stays : (program : Program) (was now : List ℕ) (up other : Bool) (night to units : ℕ) →
+    ((has wants : ℕ) → units ≤ lacking up has wants → lacking other (moved has up units) wants ≡ lacking other has wants) →
+    IsShortage program was up night to units
+    → ((n : ℕ) → n < length program.rooms → slice_index now n ≡ room_moved was (record { from = night; to = to }) up units n) → (k : ℕ) →
+    k < length program.rooms → lack_at other now program.rooms k ≡ lack_at other was program.rooms k
 other_stays program was now up other night to units keeps shortage at k h =
     let span : Span = record { from = night; to = to } in
     let lack : ℕ → ℕ = λ x. lacking other x (slice_index program.rooms k) in
     elim (cases_lt k night) [
       | inl before ↦ ap lack (at k h ∙ room_moved-before was span up units k before)
       | inr above ↦ elim (cases_lt k to) [
-        | inl inside ↦ ap lack (at k h ∙ room_moved-inside was span up units k (omega (arith, above)) inside) ∙ keeps (slice_index was k) (slice_index program.rooms k) (shortage.each k (omega (arith, above)) inside)
+        | inl inside ↦ ap lack (at k h ∙ room_moved-inside was span up units k (omega (arith, above)) inside) ∙
+            keeps (slice_index was k) (slice_index program.rooms k) (shortage.each k (omega (arith, above)) inside)
         | inr past ↦ ap lack (at k h ∙ room_moved-past was span up units k (omega (arith, past)))
       ]
     ]
 
 -- rooms are nearer after a move of a whole shortage, by as many repairs as units
-pub repairs_fall : (program : Program) (was now : List ℕ) (up : Bool) (night to units : ℕ) → IsShortage program was up night to units → HasAll up program.rooms was to → ((n : ℕ) → n < night → slice_index was n ≡ slice_index program.rooms n)
-    → ((n : ℕ) → n < length program.rooms → slice_index now n ≡ room_moved was (record { from = night; to = to }) up units n) → repairs now program.rooms + units ≡ repairs was program.rooms
+pub repairs_fall : (program : Program) (was now : List ℕ) (up : Bool) (night to units : ℕ) → IsShortage program was up night to units →
+    HasAll up program.rooms was to → ((n : ℕ) → n < night → slice_index was n ≡ slice_index program.rooms n)
+    → ((n : ℕ) → n < length program.rooms → slice_index now n ≡ room_moved was (record { from = night; to = to }) up units n) →
+    repairs now program.rooms + units ≡ repairs was program.rooms
 repairs_fall program was now true night to units shortage whole done at =
     let some = shortage.some_units in
     let nights = length program.rooms in
-    let falls = rises_fall (lack_at true was program.rooms) (lack_at true now program.rooms) night to units nights (shortage_cut program was now true night to units shortage whole done at) (omega (arith, shortage.some_night, shortage.in_range)) in
-    let stays = rises_stay (lack_at false was program.rooms) (lack_at false now program.rooms) nights (other_stays program was now true false night to units (λ has wants less. omega (arith, less, some)) shortage at) in
+    let falls = rises_fall (lack_at true was program.rooms) (lack_at true now program.rooms) night to units nights
+    (shortage_cut program was now true night to units shortage whole done at) (omega (arith, shortage.some_night, shortage.in_range)) in
+    let stays = rises_stay (lack_at false was program.rooms) (lack_at false now program.rooms) nights
+    (other_stays program was now true false night to units (λ has wants less. omega (arith, less, some)) shortage at) in
     omega (arith, falls, stays)
 repairs_fall program was now false night to units shortage whole done at =
     let some = shortage.some_units in
     let nights = length program.rooms in
-    let falls = rises_fall (lack_at false was program.rooms) (lack_at false now program.rooms) night to units nights (shortage_cut program was now false night to units shortage whole done at) (omega (arith, shortage.some_night, shortage.in_range)) in
-    let stays = rises_stay (lack_at true was program.rooms) (lack_at true now program.rooms) nights (other_stays program was now false true night to units (λ has wants less. omega (arith, less, some)) shortage at) in
+    let falls = rises_fall (lack_at false was program.rooms) (lack_at false now program.rooms) night to units nights
+    (shortage_cut program was now false night to units shortage whole done at) (omega (arith, shortage.some_night, shortage.in_range)) in
+    let stays = rises_stay (lack_at true was program.rooms) (lack_at true now program.rooms) nights
+    (other_stays program was now false true night to units (λ has wants less. omega (arith, less, some)) shortage at) in
     omega (arith, falls, stays)
 
 -- without rooms there are as many repairs as the rooms rise by

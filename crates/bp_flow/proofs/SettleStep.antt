@@ -32,10 +32,17 @@ falls_sums w n last down =
 -- two lists of falls are one where the numbers are
 falls_same : (v w : ℕ → ℕ) (n : ℕ) → ((k : ℕ) → k ≤ n → v k ≡ w k) → falls v n ≡ falls w n
 falls_same v w n same =
-    same_lists (falls v n) (falls w n) (length-map-range_with_len (λ k. v k - v (k + 1)) 0 n ∙ sym (length-map-range_with_len (λ k. w k - w (k + 1)) 0 n)) (λ k d h.
+    same_lists (falls v n) (falls w n) (length-map-range_with_len (λ k. v k - v (k + 1)) 0 n ∙
+    sym (length-map-range_with_len (λ k. w k - w (k + 1)) 0 n)) (λ k d h.
     let k_in : k < n = omega (arith, length-map-range_with_len (λ k. v k - v (k + 1)) 0 n) in
-    let e : slice_index (falls v n) k ≡ slice_index (falls w n) k = omega (arith, falls_at v n k k_in, falls_at w n k k_in, same k (omega arith), same (k + 1) (omega arith)) in
-    get_or_default (falls v n) k d 0 h ∙ e ∙ get_or_default (falls w n) k 0 d (omega (arith, length-map-range_with_len (λ k. v k - v (k + 1)) 0 n, length-map-range_with_len (λ k. w k - w (k + 1)) 0 n)))
+    let e : slice_index (falls v n) k ≡ slice_index (falls w n) k =
+    omega (arith, falls_at v n k k_in, falls_at w n k k_in, same k (omega arith), same (k + 1) (omega arith)) in
+    get_or_default (falls v n) k d 0 h ∙ e ∙
+    get_or_default (falls w n) k 0 d (omega (
+      arith,
+      length-map-range_with_len (λ k. v k - v (k + 1)) 0 n,
+      length-map-range_with_len (λ k. w k - w (k + 1)) 0 n,
+    )))
 
 -- numbers that fall alike from the same end are the same
 same_falls : (v w : ℕ → ℕ) (n : ℕ) → v n ≡ w n → ((k : ℕ) → k < n → v k + w (k + 1) ≡ w k + v (k + 1)) → (d k : ℕ) → k + d ≡ n → v k ≡ w k
@@ -43,16 +50,21 @@ same_falls v w n last alike zero k e = let at : k ≡ n = omega arith in let a =
 same_falls v w n last alike (suc d) k e = omega (arith, alike k (omega arith), same_falls v w n last alike d (k + 1) (omega arith))
 
 -- no distance exceeds the potential
-distance_below : (p : Priced) (d : ℕ → ℕ) → let N = length p.flow.program.rooms in d N ≡ 0 → ((n : ℕ) → n < N → d n ≤ (slice_index p.potentials n - slice_index p.potentials (n + 1)) + d (n + 1)) → ((n : ℕ) → n < N → slice_index p.potentials (n + 1) ≤ slice_index p.potentials n) → (m v : ℕ) → v + m ≡ N → d v ≤ slice_index p.potentials v
+distance_below : (p : Priced) (d : ℕ → ℕ) → let N = length p.flow.program.rooms in d N ≡ 0 →
+    ((n : ℕ) → n < N → d n ≤ (slice_index p.potentials n - slice_index p.potentials (n + 1)) + d (n + 1)) →
+    ((n : ℕ) → n < N → slice_index p.potentials (n + 1) ≤ slice_index p.potentials n) → (m v : ℕ) → v + m ≡ N → d v ≤ slice_index p.potentials v
 distance_below p d last step down zero v e = let at : v ≡ length p.flow.program.rooms = omega arith in let a = ap d at in omega (arith, a, last)
-distance_below p d last step down (suc m) v e = omega (arith, step v (omega arith), down v (omega arith), distance_below p d last step down m (v + 1) (omega arith))
+distance_below p d last step down (suc m) v e =
+    omega (arith, step v (omega arith), down v (omega arith), distance_below p d last step down m (v + 1) (omega arith))
 
 -- potentials fall from the first node on
 first_is_greatest : (u : ℕ → ℕ) (N : ℕ) → ((n : ℕ) → n < N → u (n + 1) ≤ u n) → (v : ℕ) → v ≤ N → u v ≤ u 0
 first_is_greatest u N down zero h = omega arith
-first_is_greatest u N down (suc v) h = let e : u (suc v) ≡ u (v + 1) = ap u (omega arith) in omega (arith, e, down v (omega arith), first_is_greatest u N down v (omega arith))
+first_is_greatest u N down (suc v) h = let e : u (suc v) ≡ u (v + 1) = ap u (omega arith) in
+    omega (arith, e, down v (omega arith), first_is_greatest u N down v (omega arith))
 
-pub settled_by_lift : (p q : Priced) (distances by : List ℕ) → IsPriced p → IsSlack p.flow (slice_index p.potentials) → IsBalanced p.flow → AreDistancesTo p (length p.flow.program.rooms) distances → q.flow ≡ p.flow →
+pub settled_by_lift : (p q : Priced) (distances by : List ℕ) → IsPriced p → IsSlack p.flow (slice_index p.potentials) → IsBalanced p.flow →
+    AreDistancesTo p (length p.flow.program.rooms) distances → q.flow ≡ p.flow →
     AreFalls distances (slice_index p.potentials 0) by (length p.flow.program.rooms + 1) → IsLifted (length p.flow.program.rooms) p.potentials by q.potentials →
     IsSettledFlow q × IsSlack q.flow (slice_index q.potentials)
 settled_by_lift p q distances by priced slack balance to same_flow fills lifted =
@@ -64,7 +76,8 @@ settled_by_lift p q distances by priced slack balance to same_flow fills lifted 
     let step : (n : ℕ) → n < N → d n ≤ (u n - u (n + 1)) + d (n + 1) = λ n h. omega (arith, to.grows (spare_more n) h) in
     let below : (v : ℕ) → v ≤ N → d v ≤ u v = λ v h. distance_below p d to.end step priced.potentials.falls (N - v) v (omega arith) in
     let settled : ℕ → ℕ = λ v. u v - d v in
-    let down : (n : ℕ) → n < N → settled (n + 1) ≤ settled n = λ n h. omega (arith, step n h, priced.potentials.falls n h, below n (omega arith), below (n + 1) (omega arith)) in
+    let down : (n : ℕ) → n < N →
+    settled (n + 1) ≤ settled n = λ n h. omega (arith, step n h, priced.potentials.falls n h, below n (omega arith), below (n + 1) (omega arith)) in
     let by_settled : IsSettledBy f u d settled = record {
       shortest = to.grows;
       reached = λ v h. to.reached v (omega arith) (let path = reaches_later f v N h (omega arith) in to.unreached v path.0 (omega arith) path.1);
@@ -73,11 +86,26 @@ settled_by_lift p q distances by priced slack balance to same_flow fills lifted 
     let prices : List ℕ = falls settled N in
     let len : length prices ≡ N = length-map-range_with_len (λ k. settled k - settled (k + 1)) 0 N in
     let end : settled N ≡ 0 = omega (arith, priced.potentials.last) in
-    let least : AreLeastPrices f.program prices = settled_prices_are_least f u d settled prices priced.limits priced.flow balance slack priced.potentials.last by_settled len (falls_sums settled N end down) in
-    let within : All (λ x. x ≤ MOST_PRICE) prices = least_prices_are_within_rates f.program prices MOST_PRICE priced.limits least (λ j h. (priced.limits.rates j no_stay h).1) in
+    let least : AreLeastPrices f.program prices =
+    settled_prices_are_least f u d settled prices priced.limits priced.flow balance slack priced.potentials.last by_settled len
+    (falls_sums settled N end down) in
+    let within : All (λ x. x ≤ MOST_PRICE) prices =
+    least_prices_are_within_rates f.program prices MOST_PRICE priced.limits least (λ j h. (priced.limits.rates j no_stay h).1) in
     let top : (v : ℕ) → v ≤ N → u v ≤ u 0 = first_is_greatest u N priced.potentials.falls in
     let alike : (k : ℕ) → k < N → w k + settled (k + 1) ≡ settled k + w (k + 1) = λ k h.
-    omega (arith, lifted.price k h, fills k (omega arith), fills (k + 1) (omega arith), below k (omega arith), below (k + 1) (omega arith), top k (omega arith), top (k + 1) (omega arith), down k h, within k 0 (omega (arith, len)), falls_at settled N k h) in
+    omega (
+      arith,
+      lifted.price k h,
+      fills k (omega arith),
+      fills (k + 1) (omega arith),
+      below k (omega arith),
+      below (k + 1) (omega arith),
+      top k (omega arith),
+      top (k + 1) (omega arith),
+      down k h,
+      within k 0 (omega (arith, len)),
+      falls_at settled N k h,
+    ) in
     let same : (v : ℕ) → v ≤ N → w v ≡ settled v = λ v h. same_falls w settled N (omega (arith, lifted.last, end)) alike (N - v) v (omega arith) in
     let settled_slack : IsSlack f settled = settled_is_slack f u d settled priced.limits slack by_settled in
     let kept_slack : IsSlack f w = lift_keeps_slack f settled (λ v. 0) w 0 priced.limits settled_slack (λ s a. omega arith) (λ v h. omega (arith, same v h)) in

@@ -7,7 +7,28 @@ use Rattle.bp_types.specs.declared.limits.TheConstants.{MOST_PRICE, MOST_UNITS}
 use Rattle.bp_types.specs.Program.{no_stay}
 use Rattle.bp_types.specs.Limits.{IsWithinLimits}
 use Rattle.bp_residual.specs.declared.hop.Hop.{Hop}
-use Rattle.bp_residual.specs.Network.{Priced, IsPriced, Flow, Step, sell_more, sell_less, spare_more, spare_less, Admits, FitsSpare, Takes, step_of, steps_of, IsSlack, path_cost, pushed_along, HasImbalance, before, greatest_spare, nodes}
+use Rattle.bp_residual.specs.Network.{
+  Priced,
+  IsPriced,
+  Flow,
+  Step,
+  sell_more,
+  sell_less,
+  spare_more,
+  spare_less,
+  Admits,
+  FitsSpare,
+  Takes,
+  step_of,
+  steps_of,
+  IsSlack,
+  path_cost,
+  pushed_along,
+  HasImbalance,
+  before,
+  greatest_spare,
+  nodes,
+}
 use Rattle.bp_residual.specs.Laws.{GrowsAlong}
 use Rattle.bp_residual.proofs.Lifts.{lift_keeps_slack, limit_keeps_slack}
 use Rattle.bp_residual.proofs.Augment.{shortest_paths_become_tight, push_moves_imbalance}
@@ -31,16 +52,19 @@ before_le v n units =
     at v n g = cond-true _ 1 0 (le-leb v n g)
 
 -- no spare number is greater than the rooms and what is still to move
-pub spare_bound : (f : Flow) (from to units n : ℕ) → IsWithinLimits f.program → HasImbalance f from to units → n < length f.program.rooms → slice_index f.spare n ≤ MOST_UNITS + units
+pub spare_bound : (f : Flow) (from to units n : ℕ) → IsWithinLimits f.program → HasImbalance f from to units → n < length f.program.rooms →
+    slice_index f.spare n ≤ MOST_UNITS + units
 spare_bound f from to units n limits imbalance h = omega (arith, imbalance n h, before_le to n units, limits.rooms n 0 h)
 
-pub fits_any : (f : Flow) (s : Step) (units : ℕ) → Admits f s units → ((n : ℕ) → n < length f.program.rooms → slice_index f.spare n + units ≤ greatest_spare) → FitsSpare f s units
+pub fits_any : (f : Flow) (s : Step) (units : ℕ) → Admits f s units →
+    ((n : ℕ) → n < length f.program.rooms → slice_index f.spare n + units ≤ greatest_spare) → FitsSpare f s units
 fits_any f (sell_more j) units a fits = tt
 fits_any f (sell_less j) units a fits = tt
 fits_any f (spare_more n) units a fits = fits n a
 fits_any f (spare_less n) units a fits = tt
 
-pub path_takes : (p : Priced) (from to units amount left : ℕ) (kept : ScratchView) → IsWithinLimits p.flow.program → IsShortestPath p from to units kept → amount ≤ units → amount ≤ left → left ≤ 10 ^ 11 → HasImbalance p.flow from to left → All (Takes p.flow amount) kept.path
+pub path_takes : (p : Priced) (from to units amount left : ℕ) (kept : ScratchView) → IsWithinLimits p.flow.program → IsShortestPath p from to units kept →
+    amount ≤ units → amount ≤ left → left ≤ 10 ^ 11 → HasImbalance p.flow from to left → All (Takes p.flow amount) kept.path
 path_takes p from to units amount left kept limits shortest fewer within small imbalance k d h =
     let hop : Hop = get_or kept.path k d in
     let s : Step = step_of p.flow.program hop in
@@ -58,9 +82,12 @@ falls_to_last : (u by : ℕ → ℕ) (last : ℕ) → ((n : ℕ) → n < last �
 falls_to_last u by last falls zero v e = let at = ap by e in let same : v + 0 ≡ v = omega arith in omega (arith, at, ap by same)
 falls_to_last u by last falls (suc d) v e = omega (arith, falls v (omega arith), falls_to_last u by last falls d (v + 1) (omega arith))
 
-pub augmented : (p : Priced) (from to units amount left : ℕ) (kept : ScratchView) (q : List ℕ) → IsPriced p → to < nodes p → IsSlack p.flow (slice_index p.potentials) → AreDistancesBelow p from (slice_index kept.distances to) kept.distances → IsShortestPath p from to units kept → amount ≤ left → HasImbalance p.flow from to left → All (Takes p.flow amount) kept.path →
+pub augmented : (p : Priced) (from to units amount left : ℕ) (kept : ScratchView) (q : List ℕ) → IsPriced p → to < nodes p →
+    IsSlack p.flow (slice_index p.potentials) → AreDistancesBelow p from (slice_index kept.distances to) kept.distances →
+    IsShortestPath p from to units kept → amount ≤ left → HasImbalance p.flow from to left → All (Takes p.flow amount) kept.path →
     IsLiftedBy (length p.flow.program.rooms) p.potentials q (slice_index kept.distances) (slice_index kept.distances to) →
-    IsSlack (pushed_along p.flow (steps_of p.flow.program kept.path) amount) (slice_index q) × HasImbalance (pushed_along p.flow (steps_of p.flow.program kept.path) amount) from to (left - amount)
+    IsSlack (pushed_along p.flow (steps_of p.flow.program kept.path) amount) (slice_index q) ×
+    HasImbalance (pushed_along p.flow (steps_of p.flow.program kept.path) amount) from to (left - amount)
 augmented p from to units amount left kept q priced to_in slack distances shortest within imbalance takes lifted_by =
     let f : Flow = p.flow in
     let N = length f.program.rooms in
@@ -82,23 +109,29 @@ augmented p from to units amount left kept q priced to_in slack distances shorte
     let tight = shortest_paths_become_tight f u by lifted c from to path priced.limits slack grows shortest.is_path cost lifts in
     let e : left ≡ amount + (left - amount) = omega arith in
     let P : ℕ → Type 0 = λ k. HasImbalance f from to k in
-    let moved = push_moves_imbalance f lifted path from to amount (left - amount) priced.limits priced.flow lifted_slack tight (path_joins f from to path shortest.is_path) (admits_along f kept.path amount shortest.once takes) (subst P e imbalance) in (
+    let moved = push_moves_imbalance f lifted path from to amount (left - amount) priced.limits priced.flow lifted_slack tight
+    (path_joins f from to path shortest.is_path) (admits_along f kept.path amount shortest.once takes) (subst P e imbalance) in (
       limit_keeps_slack (pushed_along f path amount) lifted (slice_index q) MOST_PRICE priced.limits (λ j h. (priced.limits.rates j no_stay h).1) moved.1
           (λ n h. omega (arith, lifted_by.price n h, above n (omega arith), above (n + 1) (omega arith), falls n h)),
       moved.2,
     )
 
 -- the same for the flow after the push, and after the lift
-pub shifted : (p r g : Priced) (from to units amount left : ℕ) (kept : ScratchView) (hops : List Hop) → IsPriced p → to < nodes p → IsSlack p.flow (slice_index p.potentials) → AreDistancesBelow p from (slice_index kept.distances to) kept.distances → IsShortestPath p from to units kept → hops ≡ kept.path → amount ≤ units → amount ≤ left → left ≤ 10 ^ 11 → HasImbalance p.flow from to left →
+pub shifted : (p r g : Priced) (from to units amount left : ℕ) (kept : ScratchView) (hops : List Hop) → IsPriced p → to < nodes p →
+    IsSlack p.flow (slice_index p.potentials) → AreDistancesBelow p from (slice_index kept.distances to) kept.distances →
+    IsShortestPath p from to units kept → hops ≡ kept.path → amount ≤ units → amount ≤ left → left ≤ 10 ^ 11 → HasImbalance p.flow from to left →
     r.flow ≡ pushed_along p.flow (steps_of p.flow.program hops) amount → r.potentials ≡ p.potentials → g.flow ≡ r.flow →
-    IsLiftedBy (length r.flow.program.rooms) r.potentials g.potentials (slice_index kept.distances) (slice_index kept.distances to) → IsShifting p g from to (left - amount)
-shifted p r g from to units amount left kept hops priced to_in slack distances shortest hops_are fewer within small imbalance pushed_is kept_is lifted_is lifted_by =
+    IsLiftedBy (length r.flow.program.rooms) r.potentials g.potentials (slice_index kept.distances) (slice_index kept.distances to) →
+    IsShifting p g from to (left - amount)
+shifted p r g from to units amount left kept hops priced to_in slack distances shortest hops_are fewer within small imbalance pushed_is kept_is lifted_is
+    lifted_by =
     let f1 : Flow = pushed_along p.flow (steps_of p.flow.program kept.path) amount in
     let r_is : r.flow ≡ f1 = pushed_is ∙ ap (λ hs. pushed_along p.flow (steps_of p.flow.program hs) amount) hops_are in
     let g_is : g.flow ≡ f1 = lifted_is ∙ r_is in
     let L : List ℕ → Type 0 = λ old. IsLiftedBy (length r.flow.program.rooms) old g.potentials (slice_index kept.distances) (slice_index kept.distances to) in
     let N : Flow → Type 0 = λ x. IsLiftedBy (length x.program.rooms) p.potentials g.potentials (slice_index kept.distances) (slice_index kept.distances to) in
-    let facts = augmented p from to units amount left kept g.potentials priced to_in slack distances shortest within imbalance (path_takes p from to units amount left kept priced.limits shortest fewer within small imbalance) (subst N r_is (subst L kept_is lifted_by)) in
+    let facts = augmented p from to units amount left kept g.potentials priced to_in slack distances shortest within imbalance
+    (path_takes p from to units amount left kept priced.limits shortest fewer within small imbalance) (subst N r_is (subst L kept_is lifted_by)) in
     let S : Flow → Type 0 = λ x. IsSlack x (slice_index g.potentials) in
     let H : Flow → Type 0 = λ x. HasImbalance x from to (left - amount) in
     record {

@@ -37,9 +37,18 @@ least_prices p solved =
     let down = solved.priced.potentials.falls in
     let found = distances_exist f u solved.priced.limits last down in
     let settled : ℕ → ℕ = λ v. u v - found.0 v in
-    let sums = falls_sums settled N (omega (arith, last)) (λ n h. omega (arith, found.1.shortest (spare_more n) h, found.1.lowered n (omega (arith, h)), found.1.lowered (n + 1) (omega (arith, h)), down n h)) in
-    let each : length (falls settled N) ≡ N = length-map-range_with_len (λ k. settled k - settled (k + 1)) 0 N in
-    (falls settled N, settled_prices_are_least f u found.0 settled (falls settled N) solved.priced.limits solved.priced.flow solved.balanced solved.slack last found.1 each sums)
+    let sums = falls_sums settled N (omega (arith, last)) (λ n h. omega (
+      arith,
+      found.1.shortest (spare_more n) h,
+      found.1.lowered n (omega (arith, h)),
+      found.1.lowered (n + 1) (omega (arith, h)),
+      down n h,
+    )) in
+    let each : length (falls settled N) ≡ N = length-map-range_with_len (λ k. settled k - settled (k + 1)) 0 N in (
+      falls settled N,
+      settled_prices_are_least f u found.0 settled (falls settled N)
+          solved.priced.limits solved.priced.flow solved.balanced solved.slack last found.1 each sums,
+    )
 
 -- no prices of a solved flow have to be the least ones for that: its program has some
 pub solved_programs_are_solvable : SolvedProgramsAreSolvable

@@ -4,7 +4,29 @@ use Rattle.std.proofs.lemmas.Bool.{cases_eq}
 use Rattle.std.proofs.lemmas.List.FromFn.{length-map-range_with_len}
 use Rattle.bp_types.specs.Limits.{IsWithinLimits}
 use Rattle.bp_residual.specs.declared.hop.Hop.{Hop}
-use Rattle.bp_residual.specs.Network.{Priced, IsPriced, Flow, Step, tail, head, Admits, Takes, IsSlack, IsBalanced, IsPath, path_cost, HasImbalance, arcs, step_of, steps_of, pushed, pushed_along, reduced_cost, room_of, nodes}
+use Rattle.bp_residual.specs.Network.{
+  Priced,
+  IsPriced,
+  Flow,
+  Step,
+  tail,
+  head,
+  Admits,
+  Takes,
+  IsSlack,
+  IsBalanced,
+  IsPath,
+  path_cost,
+  HasImbalance,
+  arcs,
+  step_of,
+  steps_of,
+  pushed,
+  pushed_along,
+  reduced_cost,
+  room_of,
+  nodes,
+}
 use Rattle.bp_residual.specs.Laws.{IsSettledBy}
 use Rattle.bp_residual.proofs.Lifts.{ends_in_range, admits_room}
 use Rattle.bp_residual.proofs.Augment.{push_moves_the_start, push_moves_the_end}
@@ -14,7 +36,9 @@ use Rattle.bp_flow.specs.Shift.{IsShifting, IsOpenWay, StandsAt}
 use Rattle.bp_flow.proofs.ShiftStep.{spare_bound, fits_any}
 use Rattle.bp_flow.proofs.SettleStep.{falls, falls_sums}
 
-pub open_way : (p : Priced) (units cost : ℕ) (h : Hop) → IsSlack p.flow (slice_index p.potentials) → h.arc < arcs p.flow.program → Admits p.flow (step_of p.flow.program h) 1 → cost ≡ reduced_cost p.flow.program (slice_index p.potentials) (step_of p.flow.program h) → cost ≡ 0 → units ≤ room_of p.flow (step_of p.flow.program h) → IsOpenWay p units h
+pub open_way : (p : Priced) (units cost : ℕ) (h : Hop) → IsSlack p.flow (slice_index p.potentials) → h.arc < arcs p.flow.program →
+    Admits p.flow (step_of p.flow.program h) 1 → cost ≡ reduced_cost p.flow.program (slice_index p.potentials) (step_of p.flow.program h) → cost ≡ 0 →
+    units ≤ room_of p.flow (step_of p.flow.program h) → IsOpenWay p units h
 open_way p units cost h slack in_range admits is none fits =
     let s : Step = step_of p.flow.program h in
     record {
@@ -23,7 +47,8 @@ open_way p units cost h slack in_range admits is none fits =
       tight = omega (arith, slack s admits, is, none);
     }
 
-pub way_takes : (p : Priced) (from to units : ℕ) (h : Hop) → IsWithinLimits p.flow.program → IsOpenWay p units h → units ≤ 10 ^ 11 → HasImbalance p.flow from to units → Takes p.flow units h
+pub way_takes : (p : Priced) (from to units : ℕ) (h : Hop) → IsWithinLimits p.flow.program → IsOpenWay p units h → units ≤ 10 ^ 11 →
+    HasImbalance p.flow from to units → Takes p.flow units h
 way_takes p from to units h limits way small imbalance =
     let s : Step = step_of p.flow.program h in
     record {
@@ -32,7 +57,8 @@ way_takes p from to units h limits way small imbalance =
       fits = fits_any p.flow s units way.admits (λ n l. omega (arith, spare_bound p.flow from to units n limits imbalance l));
     }
 
-pub start_moved : (p q : Priced) (start end units next : ℕ) (h : Hop) → IsPriced p → IsSlack p.flow (slice_index p.potentials) → IsOpenWay p units h → tail p.flow.program (step_of p.flow.program h) ≡ start → next ≡ head p.flow.program (step_of p.flow.program h) → HasImbalance p.flow start end units →
+pub start_moved : (p q : Priced) (start end units next : ℕ) (h : Hop) → IsPriced p → IsSlack p.flow (slice_index p.potentials) → IsOpenWay p units h →
+    tail p.flow.program (step_of p.flow.program h) ≡ start → next ≡ head p.flow.program (step_of p.flow.program h) → HasImbalance p.flow start end units →
     q.flow ≡ pushed_along p.flow (steps_of p.flow.program (h ∷ [])) units → q.potentials ≡ p.potentials → IsShifting p q next end units × (next < nodes q)
 start_moved p q start end units next h priced slack way leaves reaches imbalance pushed_is kept =
     let s : Step = step_of p.flow.program h in
@@ -53,7 +79,8 @@ start_moved p q start end units next h priced slack way leaves reaches imbalance
       omega (arith, range.1, reaches, ap (λ (f : Flow). length f.program.rooms) pushed_is),
     )
 
-pub end_moved : (p q : Priced) (start end units next : ℕ) (h : Hop) → IsPriced p → IsSlack p.flow (slice_index p.potentials) → IsOpenWay p units h → head p.flow.program (step_of p.flow.program h) ≡ end → next ≡ tail p.flow.program (step_of p.flow.program h) → HasImbalance p.flow start end units →
+pub end_moved : (p q : Priced) (start end units next : ℕ) (h : Hop) → IsPriced p → IsSlack p.flow (slice_index p.potentials) → IsOpenWay p units h →
+    head p.flow.program (step_of p.flow.program h) ≡ end → next ≡ tail p.flow.program (step_of p.flow.program h) → HasImbalance p.flow start end units →
     q.flow ≡ pushed_along p.flow (steps_of p.flow.program (h ∷ [])) units → q.potentials ≡ p.potentials → IsShifting p q start next units × (next < nodes q)
 end_moved p q start end units next h priced slack way reaches leaves imbalance pushed_is kept =
     let s : Step = step_of p.flow.program h in
@@ -74,7 +101,8 @@ end_moved p q start end units next h priced slack way reaches leaves imbalance p
       omega (arith, range.0, leaves, ap (λ (f : Flow). length f.program.rooms) pushed_is),
     )
 
-pub not_moved : (p : Priced) (start end units : ℕ) → IsSlack p.flow (slice_index p.potentials) → HasImbalance p.flow start end units → IsShifting p p start end units
+pub not_moved : (p : Priced) (start end units : ℕ) → IsSlack p.flow (slice_index p.potentials) → HasImbalance p.flow start end units →
+    IsShifting p p start end units
 not_moved p start end units slack imbalance = record { program = refl; slack = slack; imbalance = imbalance }
 
 pub moved_on : (p q r : Priced) (a b c d units : ℕ) → IsShifting p q a b units → IsShifting q r c d units → IsShifting p r c d units
@@ -88,7 +116,8 @@ met f a b units same imbalance =
     λ n h. omega (arith, at n h)
 
 -- each node has a residual path to the last one that costs nothing
-free_path : (p : Priced) (ranks : List ℕ) → IsPriced p → ((v : ℕ) → v < length p.flow.program.rooms → StandsAt p ranks v) → (most v : ℕ) → v ≤ length p.flow.program.rooms → slice_index ranks v ≤ most →
+free_path : (p : Priced) (ranks : List ℕ) → IsPriced p → ((v : ℕ) → v < length p.flow.program.rooms → StandsAt p ranks v) → (most v : ℕ) →
+    v ≤ length p.flow.program.rooms → slice_index ranks v ≤ most →
     (path : List Step) × IsPath p.flow v (length p.flow.program.rooms) path × (path_cost p.flow.program (slice_index p.potentials) path ≡ 0)
 free_path p ranks priced stand zero v v_in within =
     elim (cases_eq v (length p.flow.program.rooms)) [
@@ -106,7 +135,8 @@ free_path p ranks priced stand (suc m) v v_in within =
           (s ∷ rest.0, (at.2, at.1.admits, rest.1), omega (arith, rest.2, at.1.tight))
     ]
 
-pub stand_settled : (p : Priced) (ranks : List ℕ) → IsPriced p → IsBalanced p.flow → IsSlack p.flow (slice_index p.potentials) → ((v : ℕ) → v < length p.flow.program.rooms → StandsAt p ranks v) → IsSettledFlow p
+pub stand_settled : (p : Priced) (ranks : List ℕ) → IsPriced p → IsBalanced p.flow → IsSlack p.flow (slice_index p.potentials) →
+    ((v : ℕ) → v < length p.flow.program.rooms → StandsAt p ranks v) → IsSettledFlow p
 stand_settled p ranks priced balance slack stand =
     let u : ℕ → ℕ = slice_index p.potentials in
     let N = length p.flow.program.rooms in
@@ -115,4 +145,5 @@ stand_settled p ranks priced balance slack stand =
       reached = λ v h. free_path p ranks priced stand (slice_index ranks v) v h (omega arith);
       lowered = λ v h. omega arith;
     } in
-    settled_prices_are_least p.flow u (λ v. 0) u (falls u N) priced.limits priced.flow balance slack priced.potentials.last by_settled (length-map-range_with_len (λ k. u k - u (k + 1)) 0 N) (falls_sums u N priced.potentials.last priced.potentials.falls)
+    settled_prices_are_least p.flow u (λ v. 0) u (falls u N) priced.limits priced.flow balance slack priced.potentials.last by_settled
+    (length-map-range_with_len (λ k. u k - u (k + 1)) 0 N) (falls_sums u N priced.potentials.last priced.potentials.falls)

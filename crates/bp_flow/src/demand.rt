@@ -46,7 +46,8 @@ pub(crate) fn reforecast<L: Ledger>(
     ensures balanced { IsBalanced flow.new.flow }
     ensures slack { IsSlack flow.new.flow (slice_index flow.new.potentials) }
     ensures size { length scratch.new.distances ≡ length scratch.old.distances }
-    ensures counted { CountsSearches steps.old steps.new scratch.old.served scratch.new.served (difference (stay_at flow.old.flow.program stay).forecast value) }
+    ensures counted { CountsSearches steps.old steps.new scratch.old.served scratch.new.served
+        (difference (stay_at flow.old.flow.program stay).forecast value) }
 {
     let terms = flow.stay(stay);
     let sold = flow.sold(stay);
@@ -74,7 +75,8 @@ pub(crate) fn book_sold(flow: &mut Flow, span: Span, stay: u32, units: u64, fore
     requires sold { units ≤ slice_index flow.old.flow.sell stay }
     requires forecast { (stay_at flow.old.flow.program stay).forecast ≡ forecast }
     requires solved { IsSolvedFlow flow.old }
-    ensures program { flow.new.flow.program ≡ changed (changed flow.old.flow.program (Rooms span false units)) (Demand stay (forecast - units)) }
+    ensures program { flow.new.flow.program ≡
+        changed (changed flow.old.flow.program (Rooms span false units)) (Demand stay (forecast - units)) }
     ensures nights { length flow.new.flow.program.rooms ≡ length flow.old.flow.program.rooms }
     ensures balanced { IsBalanced flow.new.flow }
     ensures slack { IsSlack flow.new.flow (slice_index flow.new.potentials) }

@@ -4,6 +4,13 @@
 //! negative reduced cost; so its allocation and its prices have one value. A cold solve takes over what a network
 //! simplex found, as far as it is such a flow; what is wrong about its rooms is repaired. Units are moved by
 //! successive shortest paths, and prices are brought down to the least ones by distances to the last node.
+//!
+//! A certificate of the optimum, with the least prices, from nothing.
+//!
+//! ```
+//! let solver = Solver::cold(alloc, instance, steps)?;
+//! solver.certificate(alloc)
+//! ```
 #![tactic(auto)]
 
 mod demand;
@@ -15,6 +22,7 @@ mod rooms;
 mod settling;
 mod shortage;
 mod solver;
+mod standing;
 mod start;
 mod threads;
 mod ways;

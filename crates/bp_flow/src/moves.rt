@@ -29,7 +29,8 @@ fn lift_by_distances(flow: &mut Flow, scratch: &Scratch, to: u32)
     requires near { slice_index scratch.now.distances to < far }
     requires small { slice_index scratch.now.distances to ≤ 10 ^ 30 }
     ensures flow { flow.new.flow ≡ flow.old.flow }
-    ensures lifted { IsLiftedBy (length flow.old.flow.program.rooms) flow.old.potentials flow.new.potentials (slice_index scratch.now.distances) (slice_index scratch.now.distances to) }
+    ensures lifted { IsLiftedBy (length flow.old.flow.program.rooms) flow.old.potentials flow.new.potentials
+        (slice_index scratch.now.distances) (slice_index scratch.now.distances to) }
 {
     let nodes = flow.nights() as usize + 1;
     let target = scratch.distance(to).unwrap_or(0);

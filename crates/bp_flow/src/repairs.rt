@@ -29,7 +29,8 @@ pub(crate) fn lacking_at(flow: &Flow, instance: &Instance, up: bool, night: u32)
 /// many, added up.
 fn rises_of(flow: &Flow, instance: &Instance, up: bool) -> u64
     requires each { length flow.now.flow.program.rooms ≡ length instance.now.rooms }
-    ensures value { result ≡ sum_below (rise_of (lack_at up flow.now.flow.program.rooms instance.now.rooms)) (length instance.now.rooms) }
+    ensures value { result ≡
+        sum_below (rise_of (lack_at up flow.now.flow.program.rooms instance.now.rooms)) (length instance.now.rooms) }
     ensures few { result ≤ MOST_NIGHTS * MOST_UNITS }
 {
     let mut sum = 0;

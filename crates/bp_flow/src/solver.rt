@@ -1,12 +1,39 @@
-ghost use Rattle.std.specs.Prelude.{◌≡◌, ◌≢◌, ℕ, ◌+◌, ◌-◌, ◌*◌, ◌<◌, ◌≤◌, true, false, length, slice_index, All, IfOk, IsTrue};
+ghost use Rattle.std.specs.Prelude.{
+  ◌≡◌,
+  ◌≢◌,
+  ℕ,
+  ◌+◌,
+  ◌-◌,
+  ◌*◌,
+  ◌<◌,
+  ◌≤◌,
+  true,
+  false,
+  length,
+  slice_index,
+  All,
+  IfOk,
+  IsTrue,
+};
 ghost use Rattle.bp_types.specs.declared.change.Change.TheVariants.{Rooms, Demand, Rate};
 ghost use Rattle.bp_types.specs.Claim.{IsCertificateOf, IsLeastCertificate};
-ghost use Rattle.bp_types.specs.Optimum.{IsOptimum};
+ghost use Rattle.bp_types.specs.Optimum.{IsOptimum, AreLeastPrices};
 ghost use Rattle.bp_types.specs.Program.{stay_at};
 ghost use Rattle.bp_types.specs.Changes.{changed, Fits};
 ghost use Rattle.bp_residual.specs.Network.{Priced, greatest_rate, nodes};
 ghost use Rattle.bp_flow.specs.Solving.{Solving, priced};
-ghost use Rattle.bp_flow.specs.Solvers.{ColdSoFar, IsSolvedFlow, IsSolved, IsSolverOf, CountsSearches, CountsServed, CountsUpTo, difference, lack_at};
+ghost use Rattle.bp_flow.specs.Rates.{StandsAtRate};
+ghost use Rattle.bp_flow.specs.Solvers.{
+  ColdSoFar,
+  IsSolvedFlow,
+  IsSolved,
+  IsSolverOf,
+  CountsSearches,
+  CountsServed,
+  CountsUpTo,
+  difference,
+  lack_at,
+};
 ghost use Rattle.bp_flow.specs.Rising.{repairs, rises, searches_from_nothing};
 ghost use Rattle.bp_flow.specs.Settled.{IsSettled, IsSolvable};
 
@@ -18,6 +45,7 @@ use crate::repairs::lacking_at;
 use crate::rooms::{add_rooms, take_rooms};
 use crate::settling::settle_flow;
 use crate::shortage::{Shortage, shortage_at};
+use crate::standing::stands_at_rate;
 use crate::start::started;
 use bp_paths::Scratch;
 use bp_residual::Flow;
@@ -68,7 +96,25 @@ impl Solver {
         ensures counted { IfOk result (λ s. CountsServed steps.old steps.new 0 s.served) }
         ensures few { CountsUpTo steps.old steps.new (searches_from_nothing instance.now) }
     {
-        let mut solver = Solver::start(alloc, instance)?;
+        let mut simplex = Simplex::new(alloc, instance)?;
+        simplex.run();
+        Solver::cold_from(alloc, instance, &simplex, steps)
+    }
+
+    /// The same, beginning with what a network simplex holds, wherever it was cut off and whatever instance it is of:
+    /// nothing rests on it but time.
+    pub fn cold_from<L: Ledger>(
+        alloc: Global,
+        instance: &Instance,
+        simplex: &Simplex,
+        steps: &mut Steps<L>,
+    ) -> Result<Solver, Memory>
+        ensures solver { IfOk result (IsSolverOf instance.now) }
+        ensures solvable { IfOk result (λ _. IsSolvable instance.now) }
+        ensures counted { IfOk result (λ s. CountsServed steps.old steps.new 0 s.served) }
+        ensures few { CountsUpTo steps.old steps.new (searches_from_nothing instance.now) }
+    {
+        let mut solver = Solver::start(alloc, instance, simplex)?;
         for night in 0..instance.nights() {
             solver.fill(instance, night, steps);
         }
@@ -77,16 +123,14 @@ impl Solver {
     }
 
     /// A solver on the stays of the instance, with rooms of its own, and with the ways that the simplex found.
-    fn start(alloc: Global, instance: &Instance) -> Result<Solver, Memory>
+    fn start(alloc: Global, instance: &Instance, simplex: &Simplex) -> Result<Solver, Memory>
         ensures so_far { IfOk result (λ s. ColdSoFar instance.now 0 (priced s)) }
         ensures few { IfOk result (λ s. repairs s.flow.program.rooms instance.now.rooms ≤ rises instance.now.rooms) }
         ensures served { IfOk result (λ s. s.served ≡ 0) }
     {
-        let mut simplex = Simplex::new(alloc, instance)?;
-        simplex.run();
-        let flow = started(alloc, instance, &simplex)?;
+        let flow = started(alloc, instance, simplex)?;
         let mut start = Solver::on(alloc, flow)?;
-        keep_ways(&simplex, instance.nights(), &mut start.scratch);
+        keep_ways(simplex, instance.nights(), &mut start.scratch);
         Ok(start)
     }
 
@@ -107,8 +151,11 @@ impl Solver {
         requires so_far { ColdSoFar instance.now night (priced self.old) }
         requires in_range { night < length instance.now.rooms }
         ensures so_far { ColdSoFar instance.now (night + 1) (priced self.new) }
-        ensures falls { repairs self.new.flow.program.rooms instance.now.rooms ≤ repairs self.old.flow.program.rooms instance.now.rooms }
-        ensures counted { CountsSearches steps.old steps.new self.old.served self.new.served (repairs self.old.flow.program.rooms instance.now.rooms - repairs self.new.flow.program.rooms instance.now.rooms) }
+        ensures falls { repairs self.new.flow.program.rooms instance.now.rooms ≤ repairs self.old.flow.program.rooms
+            instance.now.rooms }
+        ensures counted { CountsSearches steps.old steps.new self.old.served self.new.served
+            (repairs self.old.flow.program.rooms instance.now.rooms - repairs self.new.flow.program.rooms
+            instance.now.rooms) }
     {
         while self.rooms(night) != instance.rooms(night) {
             self.fill_shortage(instance, night, steps);
@@ -121,9 +168,14 @@ impl Solver {
         requires in_range { night < length instance.now.rooms }
         requires unlike { slice_index self.old.flow.program.rooms night ≢ slice_index instance.now.rooms night }
         ensures so_far { ColdSoFar instance.now night (priced self.new) }
-        ensures nearer { difference (slice_index self.new.flow.program.rooms night) (slice_index instance.now.rooms night) < difference (slice_index self.old.flow.program.rooms night) (slice_index instance.now.rooms night) }
-        ensures falls { repairs self.new.flow.program.rooms instance.now.rooms ≤ repairs self.old.flow.program.rooms instance.now.rooms }
-        ensures counted { CountsSearches steps.old steps.new self.old.served self.new.served (repairs self.old.flow.program.rooms instance.now.rooms - repairs self.new.flow.program.rooms instance.now.rooms) }
+        ensures nearer { difference (slice_index self.new.flow.program.rooms night)
+            (slice_index instance.now.rooms night) < difference (slice_index self.old.flow.program.rooms night)
+            (slice_index instance.now.rooms night) }
+        ensures falls { repairs self.new.flow.program.rooms instance.now.rooms ≤ repairs self.old.flow.program.rooms
+            instance.now.rooms }
+        ensures counted { CountsSearches steps.old steps.new self.old.served self.new.served
+            (repairs self.old.flow.program.rooms instance.now.rooms - repairs self.new.flow.program.rooms
+            instance.now.rooms) }
     {
         let up = self.rooms(night) < instance.rooms(night);
         let Shortage { to, units } = shortage_at(self, instance, up, night);
@@ -161,6 +213,20 @@ impl Solver {
         let mut copy = Solver::on(alloc, self.flow.copy(alloc)?)?;
         copy.scratch.keep_ways_of(&self.scratch);
         Ok(copy)
+    }
+
+    /// Makes it the same solver as another one, without taking memory, where they have as many nights, and stays of the
+    /// same spans in the same order: the same instance and flow, the same prices, whether settled or not, and as many
+    /// searches. It takes the other's kept ways along. Answers whether they have; else nothing changes.
+    pub fn set_to(&mut self, other: &Solver) -> bool
+        ensures set { IsTrue result → self.new ≡ other.now }
+        ensures not_set { result ≡ false → self.new ≡ self.old }
+    {
+        if !self.flow.set_to(&other.flow) {
+            return false;
+        }
+        self.scratch.go_on_as(&other.scratch);
+        true
     }
 
     /// Adds so many units on each night of a span.
@@ -201,7 +267,8 @@ impl Solver {
         ensures program { self.new.flow.program ≡ changed self.old.flow.program (Demand stay value) }
         ensures solved { IsSolved self.new }
         ensures solvable { IsSolvable self.new.flow.program }
-        ensures counted { CountsSearches steps.old steps.new self.old.served self.new.served (difference (stay_at self.old.flow.program stay).forecast value) }
+        ensures counted { CountsSearches steps.old steps.new self.old.served self.new.served
+            (difference (stay_at self.old.flow.program stay).forecast value) }
     {
         law::solved_programs_are_solvable();
         reforecast(&mut self.flow, &mut self.scratch, stay, value, steps);
@@ -214,7 +281,9 @@ impl Solver {
     pub fn book(&mut self, span: Span, units: u64, stay: u32, value: u64) -> bool
         requires rooms { Fits self.old.flow.program (Rooms span false units) }
         requires stay { stay < length self.old.flow.program.stays }
-        ensures made { IsTrue result → self.new.flow.program ≡ changed (changed self.old.flow.program (Rooms span false units)) (Demand stay value) }
+        ensures made { IsTrue result →
+            self.new.flow.program ≡
+            changed (changed self.old.flow.program (Rooms span false units)) (Demand stay value) }
         ensures not_made { result ≡ false → self.new ≡ self.old }
         ensures solved { IsSolved self.new }
         ensures solvable { IsSolvable self.new.flow.program }
@@ -234,15 +303,33 @@ impl Solver {
         true
     }
 
-    /// Sets the rate of a stay, in minor units of money.
+    /// Sets the rate of a stay, in minor units of money. Where what is sold of it is right at that rate too, no unit
+    /// moves.
     pub fn reprice<L: Ledger>(&mut self, stay: u32, value: u64, steps: &mut Steps<L>)
         requires { Fits self.old.flow.program (Rate stay value) }
         ensures program { self.new.flow.program ≡ changed self.old.flow.program (Rate stay value) }
         ensures solved { IsSolved self.new }
         ensures solvable { IsSolvable self.new.flow.program }
-        ensures counted { CountsSearches steps.old steps.new self.old.served self.new.served (2 * (stay_at self.old.flow.program stay).forecast) }
+        ensures counted { CountsSearches steps.old steps.new self.old.served self.new.served
+            (2 * (stay_at self.old.flow.program stay).forecast) }
     {
         law::solved_programs_are_solvable();
+        let _nights = self.flow.nights();
+        if stands_at_rate(&self.flow, stay, value) {
+            self.set_rate(stay, value);
+        } else {
+            self.sell_anew(stay, value, steps);
+        }
+    }
+
+    /// Sets the rate of a stay: takes back all that is sold of it, and sells it at the new rate.
+    fn sell_anew<L: Ledger>(&mut self, stay: u32, value: u64, steps: &mut Steps<L>)
+        requires { Fits self.old.flow.program (Rate stay value) }
+        ensures program { self.new.flow.program ≡ changed self.old.flow.program (Rate stay value) }
+        ensures solved { IsSolved self.new }
+        ensures counted { CountsSearches steps.old steps.new self.old.served self.new.served
+            (2 * (stay_at self.old.flow.program stay).forecast) }
+    {
         let _nights = self.flow.nights();
         let forecast = self.flow.stay(stay).forecast;
         self.demand(stay, 0, steps);
@@ -250,10 +337,10 @@ impl Solver {
         self.demand(stay, forecast, steps);
     }
 
-    /// Sets the rate of a stay that nobody asks for.
+    /// Sets the rate of a stay of which as many are sold as that rate asks for too.
     fn set_rate(&mut self, stay: u32, value: u64)
         requires fits { Fits self.old.flow.program (Rate stay value) }
-        requires unasked { (stay_at self.old.flow.program stay).forecast ≡ 0 }
+        requires stands { StandsAtRate (priced self.old) stay value }
         ensures program { self.new.flow.program ≡ changed self.old.flow.program (Rate stay value) }
         ensures solved { IsSolved self.new }
         ensures served { self.new.served ≡ self.old.served }
@@ -289,12 +376,20 @@ impl Solver {
     pub fn certificate(&self, alloc: Global) -> Result<Certificate, Memory>
         ensures certifies { IfOk result (IsCertificateOf self.now.flow.program) }
         ensures least { IfOk result (λ c. IsSettled self.now → IsLeastCertificate self.now.flow.program c) }
-        ensures within_rates { IfOk result (λ c. IsSettled self.now → All (λ x. x ≤ greatest_rate self.now.flow.program) c.prices) }
+        ensures within_rates { IfOk result (λ c. IsSettled self.now →
+            All (λ x. x ≤ greatest_rate self.now.flow.program) c.prices) }
         ensures sold { IfOk result (λ c. c.sell ≡ self.now.flow.sell) }
     {
         bp_types::law::certificate_is_optimal();
         let certificate = self.flow.certificate(alloc)?;
         Ok(certificate)
+    }
+
+    /// The bid price of each night, in minor units of money: once settled, the least optimal ones.
+    pub fn prices(&self, alloc: Global) -> Result<Vec<u64>, Memory>
+        ensures { IfOk result (λ v. IsSettled self.now → AreLeastPrices self.now.flow.program v.items) }
+    {
+        self.flow.prices(alloc)
     }
 
     /// How many nights there are.

@@ -2,7 +2,17 @@ ghost use Rattle.std.specs.Prelude.{◌≡◌, ℕ, ◌+◌, ◌<◌, ◌≤◌,
 ghost use Rattle.bp_types.specs.declared.change.Change.TheVariants.{Rooms};
 ghost use Rattle.bp_types.specs.declared.limits.TheConstants.{MOST_UNITS};
 ghost use Rattle.bp_types.specs.Changes.{TakesUnits};
-ghost use Rattle.bp_residual.specs.Network.{Priced, Admits, IsNonNegative, IsSlack, arcs, sell_more, sell_less, spare_more, spare_less};
+ghost use Rattle.bp_residual.specs.Network.{
+  Priced,
+  Admits,
+  IsNonNegative,
+  IsSlack,
+  arcs,
+  sell_more,
+  sell_less,
+  spare_more,
+  spare_less,
+};
 ghost use Rattle.bp_flow.specs.Solvers.{ColdSoFar, IsCarrying, IsSolvedFlow};
 ghost use Rattle.bp_flow.specs.Rising.{repairs, rises};
 
@@ -53,8 +63,10 @@ pub(crate) fn grow(flow: &mut Flow, arc: u32, units: u64, instance: &Instance)
 /// Whether no residual hop over a stay has a negative reduced cost.
 fn stay_is_slack(flow: &Flow, stay: u32) -> bool
     requires { stay < length flow.now.flow.program.stays }
-    ensures more { IsTrue result → Admits flow.now.flow (sell_more stay) 1 → IsNonNegative flow.now.flow.program (slice_index flow.now.potentials) (sell_more stay) }
-    ensures less { IsTrue result → Admits flow.now.flow (sell_less stay) 1 → IsNonNegative flow.now.flow.program (slice_index flow.now.potentials) (sell_less stay) }
+    ensures more { IsTrue result → Admits flow.now.flow (sell_more stay) 1 →
+        IsNonNegative flow.now.flow.program (slice_index flow.now.potentials) (sell_more stay) }
+    ensures less { IsTrue result → Admits flow.now.flow (sell_less stay) 1 →
+        IsNonNegative flow.now.flow.program (slice_index flow.now.potentials) (sell_less stay) }
 {
     let terms = flow.stay(stay);
     let sold = flow.sold(stay);
@@ -66,7 +78,8 @@ fn stay_is_slack(flow: &Flow, stay: u32) -> bool
 /// Whether no residual hop over a night has a negative reduced cost.
 fn night_is_slack(flow: &Flow, night: u32) -> bool
     requires { night < length flow.now.flow.program.rooms }
-    ensures { IsTrue result → Admits flow.now.flow (spare_less night) 1 → IsNonNegative flow.now.flow.program (slice_index flow.now.potentials) (spare_less night) }
+    ensures { IsTrue result → Admits flow.now.flow (spare_less night) 1 →
+        IsNonNegative flow.now.flow.program (slice_index flow.now.potentials) (spare_less night) }
 {
     let _nights = flow.nights();
     flow.spare(night) == 0 || flow.level(night) <= flow.level(night + 1)
@@ -74,8 +87,10 @@ fn night_is_slack(flow: &Flow, night: u32) -> bool
 
 /// The same of all stays.
 fn stays_are_slack(flow: &Flow) -> bool
-    ensures more { IsTrue result → (j : ℕ) → Admits flow.now.flow (sell_more j) 1 → IsNonNegative flow.now.flow.program (slice_index flow.now.potentials) (sell_more j) }
-    ensures less { IsTrue result → (j : ℕ) → Admits flow.now.flow (sell_less j) 1 → IsNonNegative flow.now.flow.program (slice_index flow.now.potentials) (sell_less j) }
+    ensures more { IsTrue result → (j : ℕ) → Admits flow.now.flow (sell_more j) 1 →
+        IsNonNegative flow.now.flow.program (slice_index flow.now.potentials) (sell_more j) }
+    ensures less { IsTrue result → (j : ℕ) → Admits flow.now.flow (sell_less j) 1 →
+        IsNonNegative flow.now.flow.program (slice_index flow.now.potentials) (sell_less j) }
 {
     for stay in 0..flow.stays() {
         if !stay_is_slack(flow, stay) {
@@ -87,7 +102,8 @@ fn stays_are_slack(flow: &Flow) -> bool
 
 /// The same of all nights.
 fn nights_are_slack(flow: &Flow) -> bool
-    ensures { IsTrue result → (n : ℕ) → Admits flow.now.flow (spare_less n) 1 → IsNonNegative flow.now.flow.program (slice_index flow.now.potentials) (spare_less n) }
+    ensures { IsTrue result → (n : ℕ) → Admits flow.now.flow (spare_less n) 1 →
+        IsNonNegative flow.now.flow.program (slice_index flow.now.potentials) (spare_less n) }
 {
     for night in 0..flow.nights() {
         if !night_is_slack(flow, night) {

@@ -33,7 +33,8 @@ pub fn quote<L: Ledger>(
     ensures before { IfOk result (λ q. IsLeastCertificate solver.now.flow.program q.before) }
     ensures after { IfOk result (λ q. IsLeastCertificate (without solver.now.flow.program span rooms) q.after) }
     ensures room { OnOk result (first_short (slice_index solver.now.flow.program.rooms) span rooms ≡ None) }
-    ensures no_room { IfErr result (λ e. first_short (slice_index solver.now.flow.program.rooms) span rooms ≡ night_of e) }
+    ensures no_room { IfErr result (λ e. first_short (slice_index solver.now.flow.program.rooms) span rooms ≡
+        night_of e) }
     ensures counted { CountsUpTo steps.old steps.new (rooms + 1) }
 {
     law::certificates_tell_displacement();

@@ -23,7 +23,13 @@ first_of_year_one = day_count-early (pos 1) 10000 1 1 refl (omega arith) (omega 
 pub year_from_one : (d : Date) (day : ℕ) → epoch_day d +ℤ pos 4_371_587 ≡ pos day → 3_652_425 ≤ day → pos 1 ≤ℤ d.year
 year_from_one d day e late =
     by_lt_z d.year (pos 1)
-    (λ lt. absurd (omega (arith, signed_arith, days_from_civil-day_count d.year d.month d.day, day_count-lt_year d.year d.month d.day (pos 1) 1 1 (civil d) (omega arith) lt, first_of_year_one)))
+    (λ lt. absurd (omega (
+      arith,
+      signed_arith,
+      days_from_civil-day_count d.year d.month d.day,
+      day_count-lt_year d.year d.month d.day (pos 1) 1 1 (civil d) (omega arith) lt,
+      first_of_year_one,
+    )))
     (λ le. le)
 
 pub between : (least most n : ℕ) → least ≤ n → n ≤ most → is_between least most n ≡ true
@@ -42,7 +48,19 @@ day_of_text y m d a b e f g h i j da db de df dg dh di dj hundreds rest month da
     let year_is : number (a ∷ b ∷ e ∷ f ∷ []) ≡ y = omega arith in
     let month_is : number (g ∷ h ∷ []) ≡ m = omega arith in
     let day_is : number (i ∷ j ∷ []) ≡ d = omega arith in
-    rw (digit a da.0 da.1, digit b db.0 db.1, digit e de.0 de.1, digit f df.0 df.1, digit g dg.0 dg.1, digit h dh.0 dh.1, digit i di.0 di.1, digit j dj.0 dj.1, year_is, month_is, day_is)
+    rw (
+      digit a da.0 da.1,
+      digit b db.0 db.1,
+      digit e de.0 de.1,
+      digit f df.0 df.1,
+      digit g dg.0 dg.1,
+      digit h dh.0 dh.1,
+      digit i di.0 di.1,
+      digit j dj.0 dj.1,
+      year_is,
+      month_is,
+      day_is,
+    )
 
 -- a year from 1 to 9999, as a number of sixteen bits
 pub cast_of_year : (z : ℤ) → pos 1 ≤ℤ z → z ≤ℤ pos 9999 → T (non_neg (to_z w16 (of_z w16 z))) × Fits w16 (unsigned_abs (to_z w16 (of_z w16 z)))
@@ -57,5 +75,10 @@ year_comes_back (negsuc n) low high = absurd (omega (arith, signed_arith))
 pub day_of_date : (z : ℤ) (m d day : ℕ) → pos 1 ≤ℤ z → z ≤ℤ pos 9999 → IsInRange 1 12 m → IsInRange 1 (days_in_month z m) d →
     days_from_civil z m d +ℤ pos 4_371_587 ≡ pos day → day_of_parts (unsigned_abs z) m d ≡ Some day
 day_of_date (pos y) m d day low high month date e =
-    rw (between 1 9999 y (omega (arith, signed_arith)) (omega (arith, signed_arith)), between 1 12 m month.0 month.1, between 1 (days_in_month (pos y) m) d date.0 date.1, e)
+    rw (
+      between 1 9999 y (omega (arith, signed_arith)) (omega (arith, signed_arith)),
+      between 1 12 m month.0 month.1,
+      between 1 (days_in_month (pos y) m) d date.0 date.1,
+      e,
+    )
 day_of_date (negsuc y) m d day low high month date e = absurd (omega (arith, signed_arith))

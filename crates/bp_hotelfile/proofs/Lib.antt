@@ -4,3 +4,4 @@ pub mod DayLemmas
 pub mod StepLemmas
 pub mod NightLemmas
 pub mod SeasonLemmas
+pub mod TextLemmas

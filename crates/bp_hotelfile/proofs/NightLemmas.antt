@@ -1,5 +1,45 @@
 -- The rooms of nights, put one table after another.
-use Rattle.std.proofs.Common.{◌≡◌, ◌∙◌, sym, ap, refl, ℕ, ◌+◌, ◌-◌, ◌≤◌, ◌<◌, Bool, true, false, cond, List, [], ◌∷◌, ◌++◌, map, length, take, get_or, set, eqb, le-leb, eq-eqb, Option, Some, None, is_some, is_none, unwrap_or, arith, inl, inr, length-set, length-append, get_or-set_same, get_or-set_other}
+use Rattle.std.proofs.Common.{
+  ◌≡◌,
+  ◌∙◌,
+  sym,
+  ap,
+  refl,
+  ℕ,
+  ◌+◌,
+  ◌-◌,
+  ◌≤◌,
+  ◌<◌,
+  Bool,
+  true,
+  false,
+  cond,
+  List,
+  [],
+  ◌∷◌,
+  ◌++◌,
+  map,
+  length,
+  take,
+  get_or,
+  set,
+  eqb,
+  le-leb,
+  eq-eqb,
+  Option,
+  Some,
+  None,
+  is_some,
+  is_none,
+  unwrap_or,
+  arith,
+  inl,
+  inr,
+  length-set,
+  length-append,
+  get_or-set_same,
+  get_or-set_other,
+}
 use Rattle.std.specs.List.{count_by}
 use Rattle.std.proofs.lemmas.Bool.{cases_eq, and_parts, leb-true, ltb-true, lt-ltb}
 use Rattle.std.proofs.lemmas.Bool.Decides.{nat_tests}
@@ -19,7 +59,8 @@ pub record Holds (first nights : ℕ) (tables : List (Option NightTable)) (own :
   pub each : (n : ℕ) → n < nights → get_or own n None ≡ own_rooms tables (first + n)
   pub count : count_by is_some own ≡ length tables
 
-pub Holds-none : (first nights : ℕ) (own : List (Option ℕ)) → length own ≡ nights → ((n : ℕ) → get_or own n None ≡ None) → count_by is_some own ≡ 0 → Holds first nights [] own
+pub Holds-none : (first nights : ℕ) (own : List (Option ℕ)) → length own ≡ nights → ((n : ℕ) → get_or own n None ≡ None) → count_by is_some own ≡ 0 →
+    Holds first nights [] own
 Holds-none first nights own size none count = record { size = size; each = λ n h. none n; count = count }
 
 -- no more tables than nights
@@ -30,7 +71,8 @@ taken_or_free : (b : Bool) (x : ℕ) (rest : Option ℕ) → cond b (Some x) res
 taken_or_free true x rest e = absurd (cc)
 taken_or_free false x rest e = (refl, e)
 
-exchanged : (p q : Bool) (x y : ℕ) (rest : Option ℕ) → (p ≡ true → q ≡ true → ⊥) → cond p (Some x) (cond q (Some y) rest) ≡ cond q (Some y) (cond p (Some x) rest)
+exchanged : (p q : Bool) (x y : ℕ) (rest : Option ℕ) → (p ≡ true → q ≡ true → ⊥) →
+    cond p (Some x) (cond q (Some y) rest) ≡ cond q (Some y) (cond p (Some x) rest)
 exchanged true true x y rest apart = absurd (apart refl refl)
 exchanged true false x y rest apart = refl
 exchanged false true x y rest apart = refl
@@ -65,7 +107,8 @@ night_on-tells first nights day n e =
 -- what is wrong with a table is seen by the rooms of its night
 outside_or_twice : (first nights index : ℕ) (earlier : List (Option NightTable)) (own : List (Option ℕ)) (t : NightTable) (night : Option ℕ) →
     Holds first nights earlier own → night_on first nights t.day ≡ night →
-    wrong_by_night first index own night ≡ cond (is_none night) (Some (NightOutside index)) (cond (is_some (own_rooms earlier t.day)) (Some (TwiceNight index)) None)
+    wrong_by_night first index own night ≡
+    cond (is_none night) (Some (NightOutside index)) (cond (is_some (own_rooms earlier t.day)) (Some (TwiceNight index)) None)
 outside_or_twice first nights index earlier own t None h e = refl
 outside_or_twice first nights index earlier own t (Some n) h e =
     let (day, within) = night_on-tells first nights t.day n e in
@@ -94,14 +137,17 @@ Holds-more first nights earlier own new table h p =
     record {
       size = rw p.put (length-set own p.night (Some p.rooms) ∙ h.size);
       each = λ n below. rw (p.put, p.table_is, own_rooms-more earlier t (first + n) free) (put_at n below);
-      count = rw (p.put, length-append earlier (table ∷ [])) (omega (arith, h.count, rw p.free at (sum_by-set (λ o. cond (is_some o) 1 0) own p.night (Some p.rooms) None p.in_range)));
+      count = rw (p.put, length-append earlier (table ∷ []))
+          (omega (arith, h.count, rw p.free at (sum_by-set (λ o. cond (is_some o) 1 0) own p.night (Some p.rooms) None p.in_range)));
     }
   where
-    put_at : (n : ℕ) → n < nights → get_or (set own p.night (Some p.rooms)) n None ≡ cond (eqb (first + p.night) (first + n)) (Some p.rooms) (own_rooms earlier (first + n))
+    put_at : (n : ℕ) → n < nights →
+        get_or (set own p.night (Some p.rooms)) n None ≡ cond (eqb (first + p.night) (first + n)) (Some p.rooms) (own_rooms earlier (first + n))
     put_at n below =
         elim (cases_eq n p.night) [
           | inl here ↦ rw (here, eq-eqb _ _ refl, get_or-set_same own p.night (Some p.rooms) None p.in_range)
-          | inr other ↦ let apart : eqb (first + p.night) (first + n) ≡ false = grind (arith, nat_tests) in rw (apart, get_or-set_other own p.night n (Some p.rooms) None other) (h.each n below)
+          | inr other ↦ let apart : eqb (first + p.night) (first + n) ≡ false = grind (arith, nat_tests) in
+              rw (apart, get_or-set_other own p.night n (Some p.rooms) None other) (h.each n below)
         ]
 
 -- the rooms of each night, once every table is put
@@ -109,7 +155,8 @@ pub rooms_by_night-is : (first nights rooms : ℕ) (tables : List (Option NightT
     Holds first nights tables own → map (λ o. unwrap_or o rooms) own ≡ rooms_by_night first nights rooms tables
 rooms_by_night-is first nights rooms tables own h =
     fill_by_all (λ n. unwrap_or (own_rooms tables (first + n)) rooms) (map (λ o. unwrap_or o rooms) own) nights 0 (length-map own _ ∙ h.size)
-    (λ k below. let within : k < length own = omega (arith, h.size) in get_or-map (λ o. unwrap_or o rooms) own k None 0 within ∙ ap (λ o. unwrap_or o rooms) (h.each k below))
+    (λ k below. let within : k < length own = omega (arith, h.size) in
+    get_or-map (λ o. unwrap_or o rooms) own k None 0 within ∙ ap (λ o. unwrap_or o rooms) (h.each k below))
 
 -- one table more is right, and its rooms stand at its night
 pub table_more : (first nights index : ℕ) (tables : List (Option NightTable)) (own new : List (Option ℕ)) → index < length tables →
@@ -122,7 +169,8 @@ table_more first nights index tables own new below right h p = (
 
 -- the first table that is refused
 pub table_refused : (first nights index : ℕ) (tables : List (Option NightTable)) (own : List (Option ℕ)) (e : HotelRefusal) → index < length tables →
-    first_below (wrong_at first nights tables) index ≡ None → Holds first nights (take index tables) own → wrong_by_rooms first index own (get_or tables index None) ≡ Some e →
+    first_below (wrong_at first nights tables) index ≡ None → Holds first nights (take index tables) own →
+    wrong_by_rooms first index own (get_or tables index None) ≡ Some e →
     refused_table first nights tables ≡ Some e
 table_refused first nights index tables own e below right h wrong =
     let here : first_below (wrong_at first nights tables) (index + 1) ≡ Some e =

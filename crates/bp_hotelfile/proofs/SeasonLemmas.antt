@@ -1,5 +1,42 @@
 -- What is read is within its limits.
-use Rattle.std.proofs.Common.{◌≡◌, ◌∙◌, sym, ap, refl, ℕ, ◌+◌, ◌≤◌, Bool, true, false, cond, List, [], ◌∷◌, length, get_or, eqb, Option, Some, None, Result, Ok, Err, unwrap_or, option_and_then, arith, ℤ, pos, negsuc, codes, subst, take, drop, nat_le, ◌&&◌}
+use Rattle.std.proofs.Common.{
+  ◌≡◌,
+  ◌∙◌,
+  sym,
+  ap,
+  refl,
+  ℕ,
+  ◌+◌,
+  ◌≤◌,
+  Bool,
+  true,
+  false,
+  cond,
+  List,
+  [],
+  ◌∷◌,
+  length,
+  get_or,
+  eqb,
+  Option,
+  Some,
+  None,
+  Result,
+  Ok,
+  Err,
+  unwrap_or,
+  option_and_then,
+  arith,
+  ℤ,
+  pos,
+  negsuc,
+  codes,
+  subst,
+  take,
+  drop,
+  nat_le,
+  ◌&&◌,
+}
 use Rattle.std.specs.Option.{ok_or, option_map}
 use Rattle.std.proofs.lemmas.Bool.{and_parts, leb-true}
 use Rattle.std.proofs.lemmas.Int.{by_lt_z}
@@ -22,7 +59,21 @@ use Rattle.bp_hotelfile.specs.declared.nights.NightTable.{NightTable}
 use Rattle.bp_hotelfile.specs.Steps.{◌>>=◌}
 use Rattle.bp_hotelfile.specs.Numbers.{number, within, is_between}
 use Rattle.bp_hotelfile.specs.Dates.{has_date_form, day_of, day_of_parts, day_number, is_civil_day, first_day}
-use Rattle.bp_hotelfile.specs.Settings.{text_at, day_at, number_in, number_at, number_or, or_else, unit_in, unit_at, first_with, limits_of, settings_of, value_at, required}
+use Rattle.bp_hotelfile.specs.Settings.{
+  text_at,
+  day_at,
+  number_in,
+  number_at,
+  number_or,
+  or_else,
+  unit_in,
+  unit_at,
+  first_with,
+  limits_of,
+  settings_of,
+  value_at,
+  required,
+}
 use Rattle.bp_hotelfile.specs.Nights.{both, day_under, rooms_under, night_table, night_tables, tables_in, tables_at, own_rooms, refused_table, rooms_by_night}
 use Rattle.bp_hotelfile.specs.Season.{Season, IsSeason, tree_of, season_with, unless_refused, season_of}
 use Rattle.bp_hotelfile.proofs.DayLemmas.{first_of_year_one}
@@ -45,7 +96,8 @@ or_else-tells : (absent : ℕ) (read : Data → Result ℕ HotelRefusal) (test :
 or_else-tells absent read test None n good each e = let same : absent ≡ n = (cc) in ap test (sym same) ∙ good
 or_else-tells absent read test (Some d) n good each e = each d e
 
-number_or-tells : (absent : ℕ) (k : Key) (least most : ℕ) (tree : Members) (n : ℕ) → is_between least most absent ≡ true → number_or absent k least most tree ≡ Ok n → is_between least most n ≡ true
+number_or-tells : (absent : ℕ) (k : Key) (least most : ℕ) (tree : Members) (n : ℕ) → is_between least most absent ≡ true →
+    number_or absent k least most tree ≡ Ok n → is_between least most n ≡ true
 number_or-tells absent k least most tree n good e =
     or_else-tells absent (number_in k least most) (is_between least most) (value_at k tree) n good (λ d h. number_in-tells k least most d n h) e
 
@@ -74,7 +126,8 @@ day_of-tells t day e =
     let (civil, same) = chosen (is_civil_day y m d) (day_number y m d) day parts in
     let (year_and_month, date) = and_parts (is_between 1 9999 y && is_between 1 12 m) (is_between 1 (days_in_month (pos y) m) d) civil in
     let (year, month) = and_parts (is_between 1 9999 y) (is_between 1 12 m) year_and_month in
-    let late = number_from_first y m d (leb-true 1 y (and_parts (nat_le 1 y) (nat_le y 9999) year).0) (leb-true 1 d (and_parts (nat_le 1 d) (nat_le d (days_in_month (pos y) m)) date).0) in
+    let late = number_from_first y m d (leb-true 1 y (and_parts (nat_le 1 y) (nat_le y 9999) year).0)
+    (leb-true 1 d (and_parts (nat_le 1 d) (nat_le d (days_in_month (pos y) m)) date).0) in
     omega (arith, late, same)
 
 day_at-tells : (k : Key) (tree : Members) (day : ℕ) → day_at k tree ≡ Ok day → first_day ≤ day
@@ -98,11 +151,17 @@ abbrev Answer : Type 0
 Answer = Result ℕ HotelRefusal
 
 limits_parts : (a b d u : Answer) (l : Limits) →
-    (a >>= (λ stale_after. b >>= (λ entries. d >>= (λ publications. u >>= (λ unit. Ok (record { stale_after = stale_after; entries = entries; publications = publications; unit = unit })))))) ≡ Ok l →
+    (a >>= (λ stale_after. b >>=
+    (λ entries. d >>= (λ publications. u >>=
+    (λ unit. Ok (record { stale_after = stale_after; entries = entries; publications = publications; unit = unit })))))) ≡ Ok l →
     (a ≡ Ok l.stale_after) × (b ≡ Ok l.entries) × (d ≡ Ok l.publications) × (u ≡ Ok l.unit)
 limits_parts (Ok a) (Ok b) (Ok d) (Ok u) l e =
-    let same : record { stale_after = a; entries = b; publications = d; unit = u } ≡ l = (cc) in
-    (ap (λ (x : Limits). Ok x.stale_after) same, ap (λ (x : Limits). Ok x.entries) same, ap (λ (x : Limits). Ok x.publications) same, ap (λ (x : Limits). Ok x.unit) same)
+    let same : record { stale_after = a; entries = b; publications = d; unit = u } ≡ l = (cc) in (
+      ap (λ (x : Limits). Ok x.stale_after) same,
+      ap (λ (x : Limits). Ok x.entries) same,
+      ap (λ (x : Limits). Ok x.publications) same,
+      ap (λ (x : Limits). Ok x.unit) same,
+    )
 limits_parts (Err x) b d u l e = absurd (cc)
 limits_parts (Ok a) (Err x) d u l e = absurd (cc)
 limits_parts (Ok a) (Ok b) (Err x) u l e = absurd (cc)
@@ -112,14 +171,20 @@ last_parts : (f r : Answer) (l : Result Limits HotelRefusal) (nights : ℕ) (s :
     (f >>= (λ first. r >>= (λ rooms. l >>= (λ limits. Ok (record { first = first; nights = nights; rooms = rooms; limits = limits }))))) ≡ Ok s →
     (f ≡ Ok s.first) × (nights ≡ s.nights) × (r ≡ Ok s.rooms) × (l ≡ Ok s.limits)
 last_parts (Ok f) (Ok r) (Ok l) nights s e =
-    let same : record { first = f; nights = nights; rooms = r; limits = l } ≡ s = (cc) in
-    (ap (λ (x : Settings). Ok x.first) same, ap (λ (x : Settings). x.nights) same, ap (λ (x : Settings). Ok x.rooms) same, ap (λ (x : Settings). Ok x.limits) same)
+    let same : record { first = f; nights = nights; rooms = r; limits = l } ≡ s = (cc) in (
+      ap (λ (x : Settings). Ok x.first) same,
+      ap (λ (x : Settings). x.nights) same,
+      ap (λ (x : Settings). Ok x.rooms) same,
+      ap (λ (x : Settings). Ok x.limits) same,
+    )
 last_parts (Err x) r l nights s e = absurd (cc)
 last_parts (Ok f) (Err x) l nights s e = absurd (cc)
 last_parts (Ok f) (Ok r) (Err x) nights s e = absurd (cc)
 
 settings_parts : (a : Result (List ℕ) HotelRefusal) (b n : Answer) (f : ℕ → ℕ → Answer) (r : Answer) (l : Result Limits HotelRefusal) (s : Settings) →
-    (a >>= (λ _. b >>= (λ first. n >>= (λ nights. f first nights >>= (λ first. r >>= (λ rooms. l >>= (λ limits. Ok (record { first = first; nights = nights; rooms = rooms; limits = limits })))))))) ≡ Ok s →
+    (a >>= (λ _. b >>= (λ first. n >>=
+    (λ nights. f first nights >>=
+    (λ first. r >>= (λ rooms. l >>= (λ limits. Ok (record { first = first; nights = nights; rooms = rooms; limits = limits })))))))) ≡ Ok s →
     (day : ℕ) × (b ≡ Ok day) × (n ≡ Ok s.nights) × (f day s.nights ≡ Ok s.first) × (r ≡ Ok s.rooms) × (l ≡ Ok s.limits)
 settings_parts (Ok a) (Ok b) (Ok n) f r l s e =
     let (first, nights, rooms, limits) = last_parts (f b n) r l n s e in
@@ -130,8 +195,12 @@ settings_parts (Ok a) (Ok b) (Err x) f r l s e = absurd (cc)
 
 pub settings_tell : (tree : Members) (s : Settings) → settings_of tree ≡ Ok s → AreRead s
 settings_tell tree s e =
-    let (day, first, nights, fits, rooms, limits) = settings_parts (text_at key.Name tree) (day_at key.FirstNight tree) (number_at key.Nights 1 MOST_NIGHTS tree) first_with (number_at key.Rooms 0 MOST_ROOMS tree) (limits_of tree) s e in
-    let (stale_after, entries, publications, unit) = limits_parts (number_or STALE_AFTER key.StaleAfter 1 MOST_STALE_AFTER tree) (number_or MOST_ENTRIES key.Entries 1 MOST_ENTRIES tree) (number_or MOST_PUBLICATIONS key.Publications 1 MOST_PUBLICATIONS tree) (unit_at tree) s.limits limits in
+    let (day, first, nights, fits, rooms, limits) =
+    settings_parts (text_at key.Name tree) (day_at key.FirstNight tree) (number_at key.Nights 1 MOST_NIGHTS tree) first_with
+    (number_at key.Rooms 0 MOST_ROOMS tree) (limits_of tree) s e in
+    let (stale_after, entries, publications, unit) =
+    limits_parts (number_or STALE_AFTER key.StaleAfter 1 MOST_STALE_AFTER tree) (number_or MOST_ENTRIES key.Entries 1 MOST_ENTRIES tree)
+    (number_or MOST_PUBLICATIONS key.Publications 1 MOST_PUBLICATIONS tree) (unit_at tree) s.limits limits in
     let (short, same) = chosen_ok (nat_le (day + s.nights) LAST_DAY) day s.first (Range key.FirstNight) fits in
     let start = day_at-tells key.FirstNight tree day first in
     record {
@@ -158,14 +227,16 @@ both-tells (Some d) (Some r) t e = let same : record { day = d; rooms = r } ≡ 
 -- the number of rooms of a table is in range
 table_rooms : (d : Data) (t : NightTable) → night_table d ≡ Some t → t.rooms ≤ MOST_ROOMS
 table_rooms d t e =
-    let (z, there, is) = and_then_tells (within 0 MOST_ROOMS) (option_and_then as_integer (get (codes "rooms") d)) t.rooms (both-tells (day_under d) (rooms_under d) t e) in
+    let (z, there, is) = and_then_tells (within 0 MOST_ROOMS) (option_and_then as_integer (get (codes "rooms") d)) t.rooms
+    (both-tells (day_under d) (rooms_under d) t e) in
     (at_most 0 MOST_ROOMS t.rooms (within-tells 0 MOST_ROOMS z t.rooms is)).1
 
 -- rooms that tables give are in range
 abbrev pub RoomsFit : List (Option NightTable) → Type 0
 RoomsFit ts = (day r : ℕ) → own_rooms ts day ≡ Some r → r ≤ MOST_ROOMS
 
-one_more_fits : (o : Option NightTable) (ts : List (Option NightTable)) → ((t : NightTable) → o ≡ Some t → t.rooms ≤ MOST_ROOMS) → RoomsFit ts → RoomsFit (o ∷ ts)
+one_more_fits : (o : Option NightTable) (ts : List (Option NightTable)) → ((t : NightTable) → o ≡ Some t → t.rooms ≤ MOST_ROOMS) → RoomsFit ts →
+    RoomsFit (o ∷ ts)
 one_more_fits None ts here rest day r e = rest day r e
 one_more_fits (Some t) ts here rest day r e = by_test (eqb t.day day) e
   where
@@ -190,16 +261,19 @@ own_or_all None rooms own all = all
 own_or_all (Some r) rooms own all = own r refl
 
 -- settings that are read, and tables, make a season
-pub season_is : (s : Settings) (tables : List (Option NightTable)) (rooms : List ℕ) → AreRead s → RoomsFit tables → rooms ≡ rooms_by_night s.first s.nights s.rooms tables →
+pub season_is : (s : Settings) (tables : List (Option NightTable)) (rooms : List ℕ) → AreRead s → RoomsFit tables →
+    rooms ≡ rooms_by_night s.first s.nights s.rooms tables →
     IsSeason (record { first = s.first; rooms = rooms; limits = s.limits })
 season_is s tables rooms read fit e =
     let nights = at_most 1 MOST_NIGHTS s.nights read.nights in
-    let long : length rooms ≡ s.nights = ap (λ (xs : List ℕ). length xs) e ∙ length-map-range_with_len (λ n. unwrap_or (own_rooms tables (s.first + n)) s.rooms) 0 s.nights in
+    let long : length rooms ≡ s.nights = ap (λ (xs : List ℕ). length xs) e ∙
+    length-map-range_with_len (λ n. unwrap_or (own_rooms tables (s.first + n)) s.rooms) 0 s.nights in
     record {
       some_night = omega (arith, nights.0, long);
       nights = omega (arith, nights.1, long);
       rooms = λ k d below.
-          let at : get_or rooms k d ≡ unwrap_or (own_rooms tables (s.first + k)) s.rooms = rw e (get_or-map-range_with_len (λ n. unwrap_or (own_rooms tables (s.first + n)) s.rooms) 0 s.nights k k d (omega (arith, long)) (omega arith)) in
+          let at : get_or rooms k d ≡ unwrap_or (own_rooms tables (s.first + k)) s.rooms =
+          rw e (get_or-map-range_with_len (λ n. unwrap_or (own_rooms tables (s.first + n)) s.rooms) 0 s.nights k k d (omega (arith, long)) (omega arith)) in
           rw at (own_or_all (own_rooms tables (s.first + k)) s.rooms (fit (s.first + k)) (at_most 0 MOST_ROOMS s.rooms read.rooms).1);
       from = read.from;
       to = omega (arith, read.to, long);
@@ -216,8 +290,15 @@ unless_refused-tells (Some refusal) made season e = absurd (cc)
 -- what a hotel file says keeps to every limit
 pub season_of-tells : (bytes : List ℕ) (season : Season) → season_of bytes ≡ Ok season → IsSeason season
 season_of-tells bytes season e =
-    let (tree, parsed, rest) = steps_tell (tree_of bytes) (λ tree. settings_of tree >>= (λ s. tables_at tree >>= (λ tables. unless_refused (refused_table s.first s.nights tables) (season_with s tables)))) season e in
-    let (s, settings, more) = steps_tell (settings_of tree) (λ s. tables_at tree >>= (λ tables. unless_refused (refused_table s.first s.nights tables) (season_with s tables))) season rest in
-    let (tables, listed, last) = steps_tell (tables_at tree) (λ tables. unless_refused (refused_table s.first s.nights tables) (season_with s tables)) season more in
+    let (tree, parsed, rest) =
+    steps_tell (tree_of bytes)
+    (λ tree. settings_of tree >>= (λ s. tables_at tree >>= (λ tables. unless_refused (refused_table s.first s.nights tables) (season_with s tables))))
+    season e in
+    let (s, settings, more) =
+    steps_tell (settings_of tree) (λ s. tables_at tree >>= (λ tables. unless_refused (refused_table s.first s.nights tables) (season_with s tables)))
+    season rest in
+    let (tables, listed, last) =
+    steps_tell (tables_at tree) (λ tables. unless_refused (refused_table s.first s.nights tables) (season_with s tables)) season more in
     let same = unless_refused-tells (refused_table s.first s.nights tables) (season_with s tables) season last in
-    subst (λ x. IsSeason x) same (season_is s tables (season_with s tables).rooms (settings_tell tree s settings) (tables_fit (value_at key.Night tree) tables listed) refl)
+    subst (λ x. IsSeason x) same
+    (season_is s tables (season_with s tables).rooms (settings_tell tree s settings) (tables_fit (value_at key.Night tree) tables listed) refl)

@@ -1,5 +1,28 @@
 -- What follows from an answer of several tests, and the first refusal, place by place.
-use Rattle.std.proofs.Common.{◌≡◌, refl, ℕ, zero, suc, ◌+◌, ◌≤◌, Bool, true, false, cond, Option, Some, None, Result, Ok, Err, option_and_then, arith, add-one, inl, inr}
+use Rattle.std.proofs.Common.{
+  ◌≡◌,
+  refl,
+  ℕ,
+  zero,
+  suc,
+  ◌+◌,
+  ◌≤◌,
+  Bool,
+  true,
+  false,
+  cond,
+  Option,
+  Some,
+  None,
+  Result,
+  Ok,
+  Err,
+  option_and_then,
+  arith,
+  add-one,
+  inl,
+  inr,
+}
 use Rattle.std.specs.Option.{ok_or}
 use Rattle.std.proofs.lemmas.Bool.{cases_eq}
 use Rattle.bp_hotelfile.specs.Steps.{first_below, ◌>>=◌}

@@ -1,5 +1,34 @@
 -- The tables of nights that have rooms of their own.
-use Rattle.std.specs.Prelude.{codes, ◌≡◌, ℕ, ◌+◌, ◌-◌, ◌<◌, ◌&&◌, ◌==◌, nat_le, nat_lt, if◌then◌else◌, List, [], ◌∷◌, map, take, length, slice_index_or, slice_set, Option, Some, None, is_none, is_some, unwrap_or, option_and_then, Result, Ok}
+use Rattle.std.specs.Prelude.{
+  codes,
+  ◌≡◌,
+  ℕ,
+  ◌+◌,
+  ◌-◌,
+  ◌<◌,
+  ◌&&◌,
+  ◌==◌,
+  nat_le,
+  nat_lt,
+  if◌then◌else◌,
+  List,
+  [],
+  ◌∷◌,
+  map,
+  take,
+  length,
+  slice_index_or,
+  slice_set,
+  Option,
+  Some,
+  None,
+  is_none,
+  is_some,
+  unwrap_or,
+  option_and_then,
+  Result,
+  Ok,
+}
 use Rattle.std.specs.List.{range_with_len}
 use Rattle.std.specs.Option.{ok_or, option_map}
 use Rattle.bp_types.specs.declared.limits.TheConstants.{MOST_ROOMS}

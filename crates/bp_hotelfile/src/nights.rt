@@ -1,8 +1,37 @@
-ghost use Rattle.std.specs.Prelude.{◌≡◌, ◌≢◌, ◌≤◌, ◌<◌, length, map, IfOk, IfErr, MatchResult, OnOk, Ok, Err, Some, None, slice_index_or, unwrap_or, replicate};
+ghost use Rattle.std.specs.Prelude.{
+  ◌≡◌,
+  ◌≢◌,
+  ◌≤◌,
+  ◌<◌,
+  length,
+  map,
+  IfOk,
+  IfErr,
+  MatchResult,
+  OnOk,
+  Ok,
+  Err,
+  Some,
+  None,
+  slice_index_or,
+  unwrap_or,
+  replicate,
+};
 ghost use Rattle.bp_hotelfile.specs.Refusals.{IfRefused};
 ghost use Rattle.bp_types.specs.declared.limits.TheConstants.{MOST_NIGHTS};
 ghost use Rattle.toml.specs.View.{view, table_view};
-ghost use Rattle.bp_hotelfile.specs.Nights.{day_under, rooms_under, night_table, tables_in, tables_at, night_on, refused_table, rooms_by_night, wrong_by_rooms, Places};
+ghost use Rattle.bp_hotelfile.specs.Nights.{
+  day_under,
+  rooms_under,
+  night_table,
+  tables_in,
+  tables_at,
+  night_on,
+  refused_table,
+  rooms_by_night,
+  wrong_by_rooms,
+  Places,
+};
 
 use crate::date::day_of;
 use crate::settings::Settings;
@@ -133,7 +162,8 @@ pub(crate) fn rooms_by_night(
     ensures ok { IfOk result
         (λ v. (refused_table settings.first settings.nights tables.now ≡ None)
         × (v.items ≡ rooms_by_night settings.first settings.nights settings.rooms tables.now)) }
-    ensures err { IfErr result (λ e. IfRefused e (λ r. refused_table settings.first settings.nights tables.now ≡ Some r)) }
+    ensures err { IfErr result
+        (λ e. IfRefused e (λ r. refused_table settings.first settings.nights tables.now ≡ Some r)) }
 {
     let nights = settings.nights as usize;
     let mut own = no_rooms(alloc, nights)?;

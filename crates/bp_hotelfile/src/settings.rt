@@ -1,6 +1,15 @@
 ghost use Rattle.std.specs.Prelude.{◌≡◌, Ok};
 ghost use Rattle.toml.specs.View.{view, table_view};
-ghost use Rattle.bp_hotelfile.specs.Settings.{day_at, number_at, number_or, unit_in, unit_at, first_with, limits_of, settings_of};
+ghost use Rattle.bp_hotelfile.specs.Settings.{
+  day_at,
+  number_at,
+  number_or,
+  unit_in,
+  unit_at,
+  first_with,
+  limits_of,
+  settings_of,
+};
 
 use crate::date::{LAST_DAY, day_of};
 use crate::tree::{number_in, text_at, value_at};

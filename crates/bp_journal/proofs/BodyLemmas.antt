@@ -1,5 +1,28 @@
 -- The lines of a history can be told apart, entry by entry.
-use Rattle.std.proofs.Common.{◌≡◌, ℕ, suc, ◌+◌, ◌<◌, ap, ◌∙◌, sym, refl, arith, true, List, [], ◌∷◌, ◌++◌, length, get_or, append_assoc, Option, Some, None, is_some}
+use Rattle.std.proofs.Common.{
+  ◌≡◌,
+  ℕ,
+  suc,
+  ◌+◌,
+  ◌<◌,
+  ap,
+  ◌∙◌,
+  sym,
+  refl,
+  arith,
+  true,
+  List,
+  [],
+  ◌∷◌,
+  ◌++◌,
+  length,
+  get_or,
+  append_assoc,
+  Option,
+  Some,
+  None,
+  is_some,
+}
 use Rattle.std.specs.Prelude.{codes}
 use Rattle.std.proofs.lemmas.Bool.{and_parts, and_from}
 use Rattle.bp_types.specs.Claim.{Claim}
@@ -51,8 +74,11 @@ claim_same c d xs ys e =
     let sales = parted (line_of (codes "sell") c.sell) (line_of (codes "sell") d.sell) _ _ values.1 in
     let nights = parted (line_of (codes "prices") c.prices) (line_of (codes "prices") d.prices) _ _ sales.1 in
     let value : c.value ≡ d.value = ap (λ ns. get_or ns 0 0) (line_injective (codes "value") (c.value ∷ []) (d.value ∷ []) values.0) in
-    let built : ℕ → List ℕ → List ℕ → Claim = λ v s p. record { value = v; sell = s; prices = p } in
-    (ap (λ v. built v c.sell c.prices) value ∙ ap (λ s. built d.value s c.prices) (line_injective (codes "sell") c.sell d.sell sales.0) ∙ ap (built d.value d.sell) (line_injective (codes "prices") c.prices d.prices nights.0), nights.1)
+    let built : ℕ → List ℕ → List ℕ → Claim = λ v s p. record { value = v; sell = s; prices = p } in (
+      ap (λ v. built v c.sell c.prices) value ∙ ap (λ s. built d.value s c.prices) (line_injective (codes "sell") c.sell d.sell sales.0) ∙
+          ap (built d.value d.sell) (line_injective (codes "prices") c.prices d.prices nights.0),
+      nights.1,
+    )
 
 part_same : (c d : Option Claim) (xs ys : List TextLine) → is_some c ≡ is_some d → certificate_part c ++ xs ≡ certificate_part d ++ ys → (c ≡ d) × (xs ≡ ys)
 part_same None None xs ys some e = (refl, e)
@@ -61,13 +87,17 @@ part_same (Some c) None xs ys some e = absurd (cc)
 part_same (Some c) (Some d) xs ys some e = let both = claim_same c d xs ys e in (ap Some both.0, both.1)
 
 -- what stands behind a version line
-pub line_same : (version : Version) (place : ℕ) (x y : Line) (xs ys : List TextLine) → is_line_of version x ≡ true → is_line_of version y ≡ true → entry_text place x.entry ∷ (certificate_part x.certificate ++ xs) ≡ entry_text place y.entry ∷ (certificate_part y.certificate ++ ys) → (x ≡ y) × (xs ≡ ys)
+pub line_same : (version : Version) (place : ℕ) (x y : Line) (xs ys : List TextLine) → is_line_of version x ≡ true → is_line_of version y ≡ true →
+    entry_text place x.entry ∷ (certificate_part x.certificate ++ xs) ≡ entry_text place y.entry ∷ (certificate_part y.certificate ++ ys) → (x ≡ y) × (xs ≡ ys)
 line_same version place x y xs ys is_x is_y e =
     let parts = parted (entry_text place x.entry) (entry_text place y.entry) _ _ e in
     let entry = entry_injective place x.entry y.entry parts.0 in
     let some = line_certificate version x is_x ∙ ap (λ (n : Entry). is_some (published_position n.act)) entry ∙ sym (line_certificate version y is_y) in
-    let rest = part_same x.certificate y.certificate xs ys some parts.1 in
-    (ap (λ (n : Entry). record { entry = n; certificate = x.certificate }) entry ∙ ap (λ (c : Option Claim). record { entry = y.entry; certificate = c }) rest.0, rest.1)
+    let rest = part_same x.certificate y.certificate xs ys some parts.1 in (
+      ap (λ (n : Entry). record { entry = n; certificate = x.certificate }) entry ∙
+          ap (λ (c : Option Claim). record { entry = y.entry; certificate = c }) rest.0,
+      rest.1,
+    )
 
 -- of a journal and the lines of a history that begin it, what is left
 pub record GoesOn (version : Version) (place : ℕ) (V H : History) (rest : List TextLine) : Type 0 where
@@ -76,10 +106,12 @@ pub record GoesOn (version : Version) (place : ℕ) (V H : History) (rest : List
   pub lines : lines_from (place + length H) more ++ codes "end" ∷ [] ≡ rest
   pub journal : is_journal version more ≡ true
 
-grouped : (place : ℕ) (x : Line) (H : History) (rest : List TextLine) → lines_from place (x ∷ H) ++ rest ≡ entry_text place x.entry ∷ (certificate_part x.certificate ++ (lines_from (place + 1) H ++ rest))
+grouped : (place : ℕ) (x : Line) (H : History) (rest : List TextLine) →
+    lines_from place (x ∷ H) ++ rest ≡ entry_text place x.entry ∷ (certificate_part x.certificate ++ (lines_from (place + 1) H ++ rest))
 grouped place x H rest = ap (λ ls. entry_text place x.entry ∷ ls) (append_assoc (certificate_part x.certificate) (lines_from (place + 1) H) rest)
 
-pub goes_on : (version : Version) (place : ℕ) (V H : History) (rest : List TextLine) → is_journal version V ≡ true → is_journal version H ≡ true → (0 < length rest) → lines_from place V ++ codes "end" ∷ [] ≡ lines_from place H ++ rest → GoesOn version place V H rest
+pub goes_on : (version : Version) (place : ℕ) (V H : History) (rest : List TextLine) → is_journal version V ≡ true → is_journal version H ≡ true →
+    (0 < length rest) → lines_from place V ++ codes "end" ∷ [] ≡ lines_from place H ++ rest → GoesOn version place V H rest
 goes_on version place V [] rest is_v is_h some e = record {
   more = V;
   splits = refl;
@@ -107,8 +139,10 @@ pub lines_from-append : (place : ℕ) (H G : History) → lines_from place (H ++
 lines_from-append place [] G = ap (λ p. lines_from p G) (let f : place ≡ place + 0 = omega arith in f)
 lines_from-append place (x ∷ H) G =
     ap (λ ls. entry_text place x.entry ∷ (certificate_part x.certificate ++ ls)) (lines_from-append (place + 1) H G)
-    ∙ ap (λ p. entry_text place x.entry ∷ (certificate_part x.certificate ++ (lines_from (place + 1) H ++ lines_from p G))) (let g : place + 1 + length H ≡ place + suc (length H) = omega arith in g)
-    ∙ ap (λ ls. entry_text place x.entry ∷ ls) (sym (append_assoc (certificate_part x.certificate) (lines_from (place + 1) H) (lines_from (place + suc (length H)) G)))
+    ∙ ap (λ p. entry_text place x.entry ∷ (certificate_part x.certificate ++ (lines_from (place + 1) H ++ lines_from p G))) (let g : place + 1 + length H ≡
+    place + suc (length H) = omega arith in g)
+    ∙ ap (λ ls. entry_text place x.entry ∷ ls)
+    (sym (append_assoc (certificate_part x.certificate) (lines_from (place + 1) H) (lines_from (place + suc (length H)) G)))
 
 -- the version is told by the version line
 pub version_same : (a b : Version) → version_line a ≡ version_line b → a ≡ b

@@ -14,7 +14,20 @@ use Rattle.bp_core.specs.declared.line.Act.{Act}
 use Rattle.bp_core.specs.declared.line.Act.TheVariants.{Do, Publish, Enrol, Leave}
 use Rattle.bp_core.specs.declared.line.Entry.{Entry}
 use Rattle.bp_core.specs.declared.line.Reply.{Reply}
-use Rattle.bp_core.specs.declared.line.Reply.TheVariants.{Accepted, TooLow, NoRoom, Cancelled, NotBooked, AlreadyCancelled, Done, BelowSold, GroupAccepted, GroupTooLow, GroupNoRoom, Vector}
+use Rattle.bp_core.specs.declared.line.Reply.TheVariants.{
+  Accepted,
+  TooLow,
+  NoRoom,
+  Cancelled,
+  NotBooked,
+  AlreadyCancelled,
+  Done,
+  BelowSold,
+  GroupAccepted,
+  GroupTooLow,
+  GroupNoRoom,
+  Vector,
+}
 use Rattle.bp_core.specs.Lines.{History}
 use Rattle.bp_journal.specs.declared.version.Version.{Version}
 use Rattle.bp_journal.specs.declared.version.Version.TheVariants.{One, Two}
@@ -30,7 +43,8 @@ spaced w none (suc k) d h e = none k d (omega arith) e
 
 behind_no_end : (ws : List Word) → All HasNoEnd ws → HasNoEnd (words_behind ws)
 behind_no_end [] all = λ k d h. absurd (omega arith)
-behind_no_end (w ∷ ws) all = All-append (λ b. b ≡ 10 → ⊥) (32 ∷ w) (words_behind ws) (spaced w (all 0 [] (omega arith))) (behind_no_end ws (λ k d h. all (suc k) d (omega arith)))
+behind_no_end (w ∷ ws) all =
+    All-append (λ b. b ≡ 10 → ⊥) (32 ∷ w) (words_behind ws) (spaced w (all 0 [] (omega arith))) (behind_no_end ws (λ k d h. all (suc k) d (omega arith)))
 
 numbers_no_end : (ns : List ℕ) → All HasNoEnd (map spelled ns)
 numbers_no_end [] = λ k d h. absurd (omega arith)
@@ -66,7 +80,8 @@ entry_no_end place e =
     let act = line_in_front (act_word e.act) (map spelled (act_numbers e.act)) (act_no_end e.act) (numbers_no_end (act_numbers e.act)) in
     let reply = line_in_front (reply_word e.reply) (map spelled (reply_numbers e.reply)) (reply_no_end e.reply) (numbers_no_end (reply_numbers e.reply)) in
     let both = All-append HasNoEnd (phrase (act_word e.act) (act_numbers e.act)) (phrase (reply_word e.reply) (reply_numbers e.reply)) act reply in
-    let words = line_in_front (spelled e.caller) (phrase (act_word e.act) (act_numbers e.act) ++ phrase (reply_word e.reply) (reply_numbers e.reply)) (number_no_end e.caller) both in
+    let words = line_in_front (spelled e.caller) (phrase (act_word e.act) (act_numbers e.act) ++ phrase (reply_word e.reply) (reply_numbers e.reply))
+    (number_no_end e.caller) both in
     All-append (λ b. b ≡ 10 → ⊥) (spelled place) (words_behind (entry_words e)) (number_no_end place) (behind_no_end (entry_words e) words)
 
 part_no_ends : (c : Option Claim) → All HasNoEnd (certificate_part c)
@@ -75,7 +90,8 @@ part_no_ends (Some c) = claim_no_ends c
 
 history_no_ends : (place : ℕ) (H : History) → All HasNoEnd (lines_from place H)
 history_no_ends place [] = λ k d h. absurd (omega arith)
-history_no_ends place (x ∷ H) = line_in_front (entry_text place x.entry) (certificate_part x.certificate ++ lines_from (place + 1) H) (entry_no_end place x.entry)
+history_no_ends place (x ∷ H) =
+    line_in_front (entry_text place x.entry) (certificate_part x.certificate ++ lines_from (place + 1) H) (entry_no_end place x.entry)
     (All-append HasNoEnd (certificate_part x.certificate) (lines_from (place + 1) H) (part_no_ends x.certificate) (history_no_ends (place + 1) H))
 
 version_no_end : (version : Version) → HasNoEnd (version_line version)

@@ -7,14 +7,38 @@ use Rattle.bp_types.specs.declared.command.Command.TheVariants.{Book, Cancel, Re
 use Rattle.bp_text.specs.Numbers.{spelled}
 use Rattle.bp_text.specs.Words.{Word, HasNoSpace, phrase}
 use Rattle.bp_text.proofs.NumberLemmas.{spelled_injective}
-use Rattle.bp_text.proofs.WordLemmas.{joined_injective, number_lacks, word_lacks, word_in_front, phrase_lacks}
+use Rattle.bp_text.proofs.WordLemmas.{first_word, joined_injective, number_lacks, word_lacks, word_in_front, phrase_lacks}
 use Rattle.bp_core.specs.declared.line.Act.{Act}
 use Rattle.bp_core.specs.declared.line.Act.TheVariants.{Do, Publish, Enrol, Leave}
 use Rattle.bp_core.specs.declared.line.Entry.{Entry}
 use Rattle.bp_core.specs.declared.line.Reply.{Reply}
-use Rattle.bp_core.specs.declared.line.Reply.TheVariants.{Accepted, TooLow, NoRoom, Cancelled, NotBooked, AlreadyCancelled, Done, BelowSold, GroupAccepted, GroupTooLow, GroupNoRoom, Vector}
+use Rattle.bp_core.specs.declared.line.Reply.TheVariants.{
+  Accepted,
+  TooLow,
+  NoRoom,
+  Cancelled,
+  NotBooked,
+  AlreadyCancelled,
+  Done,
+  BelowSold,
+  GroupAccepted,
+  GroupTooLow,
+  GroupNoRoom,
+  Vector,
+}
 use Rattle.bp_core.specs.Lines.{is_done}
-use Rattle.bp_journal.specs.Acts.{act_word, act_numbers, reply_word, reply_numbers, is_book_reply, is_cancel_reply, is_resize_reply, is_group_reply, is_publish_reply, is_reply_of}
+use Rattle.bp_journal.specs.Acts.{
+  act_word,
+  act_numbers,
+  reply_word,
+  reply_numbers,
+  is_book_reply,
+  is_cancel_reply,
+  is_resize_reply,
+  is_group_reply,
+  is_publish_reply,
+  is_reply_of,
+}
 use Rattle.bp_journal.specs.Journals.{entry_words, entry_text}
 
 act_word_lacks : (a : Act) → HasNoSpace (act_word a)
@@ -47,7 +71,9 @@ entry_words_lack place e =
     let act = phrase_lacks (act_word e.act) (act_numbers e.act) (act_word_lacks e.act) in
     let reply = phrase_lacks (reply_word e.reply) (reply_numbers e.reply) (reply_word_lacks e.reply) in
     let both = All-append HasNoSpace (phrase (act_word e.act) (act_numbers e.act)) (phrase (reply_word e.reply) (reply_numbers e.reply)) act reply in
-    word_in_front (spelled place) (entry_words e) (number_lacks place) (word_in_front (spelled e.caller) (phrase (act_word e.act) (act_numbers e.act) ++ phrase (reply_word e.reply) (reply_numbers e.reply)) (number_lacks e.caller) both)
+    word_in_front (spelled place) (entry_words e) (number_lacks place)
+    (word_in_front (spelled e.caller) (phrase (act_word e.act) (act_numbers e.act) ++ phrase (reply_word e.reply) (reply_numbers e.reply))
+    (number_lacks e.caller) both)
 
 -- numbers by their words
 
@@ -207,7 +233,8 @@ reply_count_again (GroupNoRoom night) = refl
 reply_count_again (Vector number) = refl
 
 -- two replies to one act with one word have as many numbers
-pub as_many_numbers : (a : Act) (r s : Reply) → is_reply_of a r ≡ true → is_reply_of a s ≡ true → reply_word r ≡ reply_word s → length (reply_numbers r) ≡ length (reply_numbers s)
+pub as_many_numbers : (a : Act) (r s : Reply) → is_reply_of a r ≡ true → is_reply_of a s ≡ true → reply_word r ≡ reply_word s →
+    length (reply_numbers r) ≡ length (reply_numbers s)
 as_many_numbers a r s fits_r fits_s word =
     sym (reply_count_again r) ∙ ap (λ w. reply_count (is_group_reply r) (reply_kind w)) word
     ∙ ap (λ g. reply_count g (reply_kind (reply_word s))) (group_by a r fits_r ∙ sym (group_by a s fits_s)) ∙ reply_count_again s
@@ -222,9 +249,6 @@ halves (a ∷ xs) (b ∷ ys) cs ds same e =
     let more = halves xs ys cs ds (omega (arith, same)) t in
     (ap (λ x. x ∷ xs) h ∙ ap (λ zs. b ∷ zs) more.0, more.1)
 
-pub first_word : (w v : Word) (ws vs : List Word) → w ∷ ws ≡ v ∷ vs → (w ≡ v) × (ws ≡ vs)
-first_word w v ws vs e = let h : w ≡ v = cc in let t : ws ≡ vs = cc in (h, t)
-
 reply_same : (r s : Reply) → phrase (reply_word r) (reply_numbers r) ≡ phrase (reply_word s) (reply_numbers s) → r ≡ s
 reply_same r s e =
     let parts = first_word (reply_word r) (reply_word s) _ _ e in
@@ -236,8 +260,10 @@ pub no_group : (old mid : List Word) (f t : ℕ) → old ≡ spelled f ∷ spell
     → (a : Act) (more : List Word) → act_word a ≡ codes "group" → old ≡ map spelled (act_numbers a) ++ more → ⊥
 no_group old mid f t two none a more e is =
     let numbers = act_numbers a in
-    let group : a ≡ Do (Group (record { from = at numbers 0; to = at numbers 1 }) (at numbers 2) (at numbers 3)) = sym (act_again a) ∙ ap (λ w. act_by (kind w) numbers) e in
-    let flat : old ≡ spelled (at numbers 0) ∷ spelled (at numbers 1) ∷ spelled (at numbers 2) ∷ spelled (at numbers 3) ∷ more = is ∙ ap (λ b. map spelled (act_numbers b) ++ more) group in
+    let group : a ≡ Do (Group (record { from = at numbers 0; to = at numbers 1 }) (at numbers 2) (at numbers 3)) = sym (act_again a) ∙
+    ap (λ w. act_by (kind w) numbers) e in
+    let flat : old ≡ spelled (at numbers 0) ∷ spelled (at numbers 1) ∷ spelled (at numbers 2) ∷ spelled (at numbers 3) ∷ more = is ∙
+    ap (λ b. map spelled (act_numbers b) ++ more) group in
     let rest = (first_word (spelled f) (spelled (at numbers 0)) _ _ (sym two ∙ flat)).1 in
     none (at numbers 2) (at numbers 3) more (first_word (spelled t) (spelled (at numbers 1)) _ _ rest).1
 
@@ -246,7 +272,8 @@ pub act_same : (a b : Act) (ws vs : List Word) → phrase (act_word a) (act_numb
 act_same a b ws vs e =
     let parts = first_word (act_word a) (act_word b) _ _ e in
     let long : length (map spelled (act_numbers a)) ≡ length (map spelled (act_numbers b)) =
-    length-map (act_numbers a) spelled ∙ sym (count_again a) ∙ ap (λ w. count_by_kind (kind w)) parts.0 ∙ count_again b ∙ sym (length-map (act_numbers b) spelled) in
+    length-map (act_numbers a) spelled ∙ sym (count_again a) ∙ ap (λ w. count_by_kind (kind w)) parts.0 ∙ count_again b ∙
+    sym (length-map (act_numbers b) spelled) in
     let two = halves (map spelled (act_numbers a)) (map spelled (act_numbers b)) _ _ long parts.1 in
     let numbers = numbers_same (act_numbers a) (act_numbers b) two.0 in
     (sym (act_again a) ∙ ap (λ w. act_by (kind w) (act_numbers a)) parts.0 ∙ ap (act_by (kind (act_word b))) numbers ∙ act_again b, two.1)

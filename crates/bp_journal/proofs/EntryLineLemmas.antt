@@ -1,14 +1,38 @@
 -- From the words of a line to the entry that it tells.
-use Rattle.std.proofs.Common.{◌≡◌, ℕ, ◌==◌, ◌⊎◌, ◌<◌, ◌≤◌, ◌&&◌, refl, ap, sym, subst, ◌∙◌, arith, Bool, true, false, List, [], ◌∷◌, ◌++◌, length, map, append-nil, inl, inr, length-append}
+use Rattle.std.proofs.Common.{
+  ◌≡◌,
+  ℕ,
+  ◌==◌,
+  ◌<◌,
+  ◌≤◌,
+  ◌&&◌,
+  refl,
+  ap,
+  sym,
+  subst,
+  ◌∙◌,
+  arith,
+  Bool,
+  true,
+  false,
+  List,
+  [],
+  ◌∷◌,
+  ◌++◌,
+  length,
+  map,
+  append-nil,
+  length-append,
+}
 use Rattle.std.specs.Prelude.{not, MatchBool}
-use Rattle.std.proofs.lemmas.Bool.{and_parts, and_from, cases_Bool, eqb-true, eqb-false, cond-true, cond-false}
+use Rattle.std.proofs.lemmas.Bool.{and_parts, and_from, eqb-true, eqb-false}
 use Rattle.std.proofs.lemmas.List.{length-map}
 use Rattle.bp_text.specs.Numbers.{spelled}
 use Rattle.bp_text.specs.Lines.{Line}
-use Rattle.bp_text.specs.Words.{Word, words_behind, joined, phrase, split, in_front, IsCounted}
+use Rattle.bp_text.specs.Words.{Word, phrase, split, IsCounted}
 use Rattle.bp_text.specs.declared.words.Counted.{Counted}
 use Rattle.bp_text.proofs.NumberLemmas.{spelled_injective}
-use Rattle.bp_text.proofs.WordLemmas.{split_joined}
+use Rattle.bp_text.proofs.WordLemmas.{first_word, split_joined, split_back}
 use Rattle.bp_core.specs.declared.line.Act.{Act}
 use Rattle.bp_core.specs.declared.line.Entry.{Entry}
 use Rattle.bp_core.specs.declared.line.Reply.{Reply}
@@ -21,51 +45,15 @@ use Rattle.bp_journal.specs.Journals.{entry_words, entry_text, is_known, is_form
 use Rattle.bp_journal.specs.Limits.{IsEntryWithin}
 use Rattle.bp_journal.specs.Found.{IsEntryLine, IsFound}
 use Rattle.bp_journal.specs.Told.{IsEntryFound}
-use Rattle.bp_journal.proofs.EntryLemmas.{entry_words_lack, first_word, act_same, replies_by_word, as_many_numbers}
-
--- a line is its words, joined
-in_front_back : (b : ℕ) (bs : List ℕ) (ws : List Word) (w : Word) (vs : List Word) → ((v : Word) (us : List Word) → ws ≡ v ∷ us → bs ≡ joined v us) → bs ≡ [] ⊎ (ws ≡ [] → ⊥) → in_front b ws ≡ w ∷ vs → b ∷ bs ≡ joined w vs
-in_front_back b bs [] w vs back (inl none) e =
-    let parts = first_word (b ∷ []) w [] vs e in
-    ap (λ x. b ∷ x) none ∙ ap (λ v. joined v []) parts.0 ∙ ap (joined w) parts.1
-in_front_back b bs [] w vs back (inr some) e = absurd (some refl)
-in_front_back b bs (v ∷ us) w vs back some e =
-    let parts = first_word (b ∷ v) w us vs e in
-    ap (λ x. b ∷ x) (back v us refl) ∙ ap (λ x. joined x us) parts.0 ∙ ap (joined w) parts.1
-
-in_front_is_some : (b : ℕ) (ws : List Word) → in_front b ws ≡ [] → ⊥
-in_front_is_some b [] e = cc
-in_front_is_some b (w ∷ ws) e = cc
-
-some_word : (bs : List ℕ) → split bs ≡ [] → ⊥
-some_word [] e = cc
-some_word (b ∷ bs) e = elim (cases_Bool (b == 32)) [
-  | inl space ↦ let f : [] ∷ split bs ≡ [] = sym (cond-true (b == 32) ([] ∷ split bs) (in_front b (split bs)) space) ∙ e in cc
-  | inr other ↦ in_front_is_some b (split bs) (sym (cond-false (b == 32) ([] ∷ split bs) (in_front b (split bs)) other) ∙ e)
-]
-
-space_back : (bs : List ℕ) (ws : List Word) → ((v : Word) (us : List Word) → split bs ≡ v ∷ us → bs ≡ joined v us) → split bs ≡ ws → 32 ∷ bs ≡ words_behind ws
-space_back bs [] back e = absurd (some_word bs e)
-space_back bs (v ∷ us) back e = ap (λ x. 32 ∷ x) (back v us e)
-
-pub split_back : (line : Line) (w : Word) (ws : List Word) → split line ≡ w ∷ ws → line ≡ joined w ws
-split_back [] w ws e = let parts = first_word [] w [] ws e in ap (λ v. joined v []) parts.0 ∙ ap (joined w) parts.1
-split_back (b ∷ bs) w ws e = elim (cases_Bool (b == 32)) [
-  | inl space ↦
-      let f : [] ∷ split bs ≡ w ∷ ws = sym (cond-true (b == 32) ([] ∷ split bs) (in_front b (split bs)) space) ∙ e in
-      let parts = first_word [] w (split bs) ws f in
-      ap (λ k. k ∷ bs) (eqb-true b 32 space) ∙ space_back bs ws (split_back bs) parts.1 ∙ ap (λ v. v ++ words_behind ws) parts.0
-  | inr other ↦
-      let f : in_front b (split bs) ≡ w ∷ ws = sym (cond-false (b == 32) ([] ∷ split bs) (in_front b (split bs)) other) ∙ e in
-      in_front_back b bs (split bs) w ws (split_back bs) (inr (some_word bs)) f
-]
+use Rattle.bp_journal.proofs.EntryLemmas.{entry_words_lack, act_same, replies_by_word, as_many_numbers}
 
 -- an entry's line is split into its words
 split_of_entry : (place : ℕ) (e : Entry) → split (entry_text place e) ≡ spelled place ∷ entry_words e
 split_of_entry place e = split_joined (spelled place) (entry_words e) (entry_words_lack place e)
 
 -- whether the first word is a place
-pub placed : (words new : List Word) (place n : ℕ) (s : Counted) (b : Bool) → words ≡ spelled n ∷ new → IsCounted place n s → b ≡ (not s.great && (s.value == place))
+pub placed : (words new : List Word) (place n : ℕ) (s : Counted) (b : Bool) → words ≡ spelled n ∷ new → IsCounted place n s →
+    b ≡ (not s.great && (s.value == place))
     → MatchBool b (words ≡ spelled place ∷ new) ((more : List Word) → words ≡ spelled place ∷ more → ⊥)
 placed words new place n s b is counted same = subst Q (sym same) (go s.great counted.1)
   where
@@ -84,16 +72,19 @@ placed words new place n s b is counted same = subst Q (sym same) (go s.great co
     go false here = by_value (s.value == place) refl here.1
 
 -- another place stands first
-pub not_placed : (version : Version) (place : ℕ) (line : Line) (words : List Word) → words ≡ split line → ((more : List Word) → words ≡ spelled place ∷ more → ⊥) → IsEntryLine version place line → ⊥
+pub not_placed : (version : Version) (place : ℕ) (line : Line) (words : List Word) → words ≡ split line →
+    ((more : List Word) → words ≡ spelled place ∷ more → ⊥) → IsEntryLine version place line → ⊥
 not_placed version place line words is none (e, form, same) = none (entry_words e) (is ∙ ap split same ∙ split_of_entry place e)
 
 -- no entry's words stand behind the place
-pub not_told : (version : Version) (place : ℕ) (line : Line) (words ws : List Word) → words ≡ split line → words ≡ spelled place ∷ ws → ((e : Entry) → is_form version e ≡ true → ws ≡ entry_words e → ⊥) → IsEntryLine version place line → ⊥
+pub not_told : (version : Version) (place : ℕ) (line : Line) (words ws : List Word) → words ≡ split line → words ≡ spelled place ∷ ws →
+    ((e : Entry) → is_form version e ≡ true → ws ≡ entry_words e → ⊥) → IsEntryLine version place line → ⊥
 not_told version place line words ws is placed none (e, form, same) =
     none e form (first_word (spelled place) (spelled place) ws (entry_words e) (sym placed ∙ is ∙ ap split same ∙ split_of_entry place e)).1
 
 -- what was found of the entry is found on its line
-pub found_line : (version : Version) (place : ℕ) (line : Line) (words ws : List Word) (e : Entry) (f : Found) → words ≡ split line → words ≡ spelled place ∷ ws → is_form version e ≡ true → ws ≡ entry_words e → IsEntryFound e f → IsFound version place line f
+pub found_line : (version : Version) (place : ℕ) (line : Line) (words ws : List Word) (e : Entry) (f : Found) → words ≡ split line →
+    words ≡ spelled place ∷ ws → is_form version e ≡ true → ws ≡ entry_words e → IsEntryFound e f → IsFound version place line f
 found_line version place line words ws e f is placed form told found =
     go f found (split_back line (spelled place) (entry_words e) (sym is ∙ placed ∙ ap (λ vs. spelled place ∷ vs) told))
   where
@@ -106,15 +97,18 @@ found_line version place line words ws e f is placed form told found =
         (subst P back form, subst IsEntryWithin back within.0, same ∙ ap (entry_text place) back)
 
 -- the words behind the caller are no act's
-pub no_act : (version : Version) (old mid : List Word) (n : ℕ) → old ≡ spelled n ∷ mid → ((a : Act) (more : List Word) → is_known version a ≡ true → mid ≡ phrase (act_word a) (act_numbers a) ++ more → ⊥)
+pub no_act : (version : Version) (old mid : List Word) (n : ℕ) → old ≡ spelled n ∷ mid →
+    ((a : Act) (more : List Word) → is_known version a ≡ true → mid ≡ phrase (act_word a) (act_numbers a) ++ more → ⊥)
     → (e : Entry) → is_form version e ≡ true → old ≡ entry_words e → ⊥
 no_act version old mid n is none e form same =
     none e.act (phrase (reply_word e.reply) (reply_numbers e.reply)) (and_parts (is_known version e.act) (is_reply_of e.act e.reply) form).0
     (first_word (spelled n) (spelled e.caller) mid _ (sym is ∙ same)).1
 
 -- of an entry with these words and this act in front, what the reply is
-behind_act : (version : Version) (old mid last : List Word) (n : ℕ) (a : Act) (t : ToldAct) → old ≡ spelled n ∷ mid → mid ≡ phrase (act_word a) (act_numbers a) ++ last → act_word t.act ≡ act_word a
-    → (e : Entry) → is_form version e ≡ true → old ≡ entry_words e → (is_reply_of t.act e.reply ≡ true) × (last ≡ phrase (reply_word e.reply) (reply_numbers e.reply))
+behind_act : (version : Version) (old mid last : List Word) (n : ℕ) (a : Act) (t : ToldAct) → old ≡ spelled n ∷ mid →
+    mid ≡ phrase (act_word a) (act_numbers a) ++ last → act_word t.act ≡ act_word a
+    → (e : Entry) → is_form version e ≡ true → old ≡ entry_words e →
+    (is_reply_of t.act e.reply ≡ true) × (last ≡ phrase (reply_word e.reply) (reply_numbers e.reply))
 behind_act version old mid last n a t is acts word e form same =
     let words = (first_word (spelled n) (spelled e.caller) mid _ (sym is ∙ same)).1 in
     let parts = act_same a e.act last (phrase (reply_word e.reply) (reply_numbers e.reply)) (sym acts ∙ words) in
@@ -122,23 +116,37 @@ behind_act version old mid last n a t is acts word e form same =
     (ap (λ p. p e.reply) (replies_by_word t.act a word ∙ ap is_reply_of parts.0) ∙ fits, parts.1)
 
 -- the words behind the act are no reply's
-pub no_reply : (version : Version) (old mid last : List Word) (n : ℕ) (a : Act) (t : ToldAct) → old ≡ spelled n ∷ mid → mid ≡ phrase (act_word a) (act_numbers a) ++ last → act_word t.act ≡ act_word a
-    → ((r : Reply) (more : List Word) → is_reply_of t.act r ≡ true → last ≡ phrase (reply_word r) (reply_numbers r) ++ more → ⊥) → (e : Entry) → is_form version e ≡ true → old ≡ entry_words e → ⊥
+pub no_reply : (version : Version) (old mid last : List Word) (n : ℕ) (a : Act) (t : ToldAct) → old ≡ spelled n ∷ mid →
+    mid ≡ phrase (act_word a) (act_numbers a) ++ last → act_word t.act ≡ act_word a
+    → ((r : Reply) (more : List Word) → is_reply_of t.act r ≡ true → last ≡ phrase (reply_word r) (reply_numbers r) ++ more → ⊥) → (e : Entry) →
+    is_form version e ≡ true → old ≡ entry_words e → ⊥
 no_reply version old mid last n a t is acts word none e form same =
     let reply = behind_act version old mid last n a t is acts word e form same in
     none e.reply [] reply.0 (reply.1 ∙ sym (append-nil (phrase (reply_word e.reply) (reply_numbers e.reply))))
 
 -- a word is left
-pub one_too_many : (version : Version) (old mid last rest : List Word) (n : ℕ) (a : Act) (t : ToldAct) (r : Reply) (w : Word) (more : List Word) → old ≡ spelled n ∷ mid → mid ≡ phrase (act_word a) (act_numbers a) ++ last → act_word t.act ≡ act_word a
-    → is_reply_of t.act r ≡ true → last ≡ phrase (reply_word r) (reply_numbers r) ++ rest → rest ≡ w ∷ more → (e : Entry) → is_form version e ≡ true → old ≡ entry_words e → ⊥
+pub one_too_many : (version : Version) (old mid last rest : List Word) (n : ℕ) (a : Act) (t : ToldAct) (r : Reply) (w : Word) (more : List Word) →
+    old ≡ spelled n ∷ mid → mid ≡ phrase (act_word a) (act_numbers a) ++ last → act_word t.act ≡ act_word a
+    → is_reply_of t.act r ≡ true → last ≡ phrase (reply_word r) (reply_numbers r) ++ rest → rest ≡ w ∷ more → (e : Entry) → is_form version e ≡ true →
+    old ≡ entry_words e → ⊥
 one_too_many version old mid last rest n a t r w more is acts word fits replies left e form same =
     let reply = behind_act version old mid last n a t is acts word e form same in
-    let parts = first_word (reply_word r) (reply_word e.reply) (map spelled (reply_numbers r) ++ rest) (map spelled (reply_numbers e.reply)) (sym replies ∙ reply.1) in
+    let parts = first_word (reply_word r) (reply_word e.reply) (map spelled (reply_numbers r) ++ rest) (map spelled (reply_numbers e.reply)) (sym replies ∙
+    reply.1) in
     let counts = as_many_numbers t.act r e.reply fits reply.0 parts.0 in
-    omega (arith, ap length parts.1, length-append (map spelled (reply_numbers r)) rest, length-map (reply_numbers r) spelled, length-map (reply_numbers e.reply) spelled, counts, ap length left)
+    omega (
+      arith,
+      ap length parts.1,
+      length-append (map spelled (reply_numbers r)) rest,
+      length-map (reply_numbers r) spelled,
+      length-map (reply_numbers e.reply) spelled,
+      counts,
+      ap length left,
+    )
 
 -- all words were told
-pub all_told : (version : Version) (old mid last rest : List Word) (n : ℕ) (a : Act) (t : ToldAct) (r : Reply) → old ≡ spelled n ∷ mid → is_known version a ≡ true → mid ≡ phrase (act_word a) (act_numbers a) ++ last → act_word t.act ≡ act_word a
+pub all_told : (version : Version) (old mid last rest : List Word) (n : ℕ) (a : Act) (t : ToldAct) (r : Reply) → old ≡ spelled n ∷ mid →
+    is_known version a ≡ true → mid ≡ phrase (act_word a) (act_numbers a) ++ last → act_word t.act ≡ act_word a
     → is_reply_of t.act r ≡ true → last ≡ phrase (reply_word r) (reply_numbers r) ++ rest → rest ≡ []
     → (is_form version (record { caller = n; act = a; reply = r }) ≡ true) × (old ≡ entry_words (record { caller = n; act = a; reply = r }))
 all_told version old mid last rest n a t r is known acts word fits replies left =

@@ -25,5 +25,7 @@ whole_journal bytes end H is none =
     (v, refl, whole_text noted_lines IsNotedWithin bytes end v (spelt (start_of bytes) end H is) none)
 
 -- bytes follow
-pub trailed_journal : (bytes : List ℕ) (end : Given) (H : History) (e : TextError) → IsNoted (start_of bytes) end H → e ≡ Trailing (end.given + 1) → (end.rest ≡ [] → ⊥) → IsJournalText bytes (Err e)
-trailed_journal bytes end H e is at some = trailed_text noted_lines IsNotedWithin bytes end (noted (start_of bytes) end H is) e (spelt (start_of bytes) end H is) at some
+pub trailed_journal : (bytes : List ℕ) (end : Given) (H : History) (e : TextError) → IsNoted (start_of bytes) end H → e ≡ Trailing (end.given + 1) →
+    (end.rest ≡ [] → ⊥) → IsJournalText bytes (Err e)
+trailed_journal bytes end H e is at some =
+    trailed_text noted_lines IsNotedWithin bytes end (noted (start_of bytes) end H is) e (spelt (start_of bytes) end H is) at some

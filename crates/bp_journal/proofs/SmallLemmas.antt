@@ -28,7 +28,8 @@ if_small false n most small = omega arith
 -- the price of a span
 pub price_is_small : (prices : List ℕ) (span : Span) → All (λ x. x ≤ MOST_PRICE) prices → price prices span ≤ 1000000000 * length prices
 price_is_small prices span small =
-    prices_sum (λ n. cond (covers span n) (slice_index prices n) 0) (length prices) (λ n h. if_small (covers span n) (slice_index prices n) 1000000000 (small n 0 h))
+    prices_sum (λ n. cond (covers span n) (slice_index prices n) 0) (length prices)
+    (λ n h. if_small (covers span n) (slice_index prices n) 1000000000 (small n 0 h))
 
 sold_is_small : (p : Program) (sell : List ℕ) → IsWithinLimits p → IsFeasible p sell → (j : ℕ) → j < length p.stays → slice_index sell j ≤ 1000000
 sold_is_small p sell limits feasible j h = omega (arith, feasible.within_forecast j h, limits.forecasts j no_stay h)
@@ -37,7 +38,8 @@ sold_is_small p sell limits feasible j h = omega (arith, feasible.within_forecas
 pub worth_is_small : (p : Program) (sell : List ℕ) → IsWithinLimits p → IsFeasible p sell → worth p sell ≤ 4000000000000000000
 worth_is_small p sell limits feasible =
     let each : (j : ℕ) → j < length p.stays → (stay_at p j).rate * slice_index sell j ≤ 1000000000000000 =
-    λ j h. let rate : (stay_at p j).rate ≤ 1000000000 = (limits.rates j no_stay h).1 in omega (arith, mul-le-mul rate (sold_is_small p sell limits feasible j h)) in
+    λ j h. let rate : (stay_at p j).rate ≤ 1000000000 = (limits.rates j no_stay h).1 in
+    omega (arith, mul-le-mul rate (sold_is_small p sell limits feasible j h)) in
     omega (arith, revenues_sum (λ j. (stay_at p j).rate * slice_index sell j) (length p.stays) each, limits.stays)
 
 -- a displacement

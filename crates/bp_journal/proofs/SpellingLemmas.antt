@@ -66,4 +66,5 @@ pub one_reading : OneReading
 one_reading bytes a b not_a not_b h k =
     let x = answered bytes a not_a h in
     let y = answered bytes b not_b k in
-    x.seen ∙ ap (seen_as (λ (v : Noted). v.1)) (one_way noted_lines IsNotedWithin journals_are_spelled bytes x.answer y.answer x.told y.told x.text y.text) ∙ sym y.seen
+    x.seen ∙ ap (seen_as (λ (v : Noted). v.1)) (one_way noted_lines IsNotedWithin journals_are_spelled bytes x.answer y.answer x.told y.told x.text y.text) ∙
+    sym y.seen

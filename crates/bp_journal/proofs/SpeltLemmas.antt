@@ -24,7 +24,8 @@ pub one_text : (line : TextLine) → line ++ 10 ∷ [] ≡ text_of (line ∷ [])
 one_text line = sym (append-nil (line ++ 10 ∷ []))
 
 pub entry_is : (old : List ℕ) (place : ℕ) (e : Entry) →
-    (((((old ++ spelled place) ++ 32 ∷ []) ++ spelled e.caller) ++ words_behind (phrase (act_word e.act) (act_numbers e.act))) ++ words_behind (phrase (reply_word e.reply) (reply_numbers e.reply))) ++ 10 ∷ [] ≡ old ++ text_of (entry_text place e ∷ [])
+    (((((old ++ spelled place) ++ 32 ∷ []) ++ spelled e.caller) ++ words_behind (phrase (act_word e.act) (act_numbers e.act))) ++ words_behind
+    (phrase (reply_word e.reply) (reply_numbers e.reply))) ++ 10 ∷ [] ≡ old ++ text_of (entry_text place e ∷ [])
 entry_is old place e =
     let a : List Word = phrase (act_word e.act) (act_numbers e.act) in
     let r : List Word = phrase (reply_word e.reply) (reply_numbers e.reply) in
@@ -34,7 +35,8 @@ entry_is old place e =
     ∙ append_assoc ((old ++ spelled place) ++ 32 ∷ []) (spelled e.caller) (words_behind a ++ (words_behind r ++ t))
     ∙ append_assoc (old ++ spelled place) (32 ∷ []) (spelled e.caller ++ (words_behind a ++ (words_behind r ++ t)))
     ∙ append_assoc old (spelled place) (32 ∷ (spelled e.caller ++ (words_behind a ++ (words_behind r ++ t))))
-    ∙ ap (λ x. old ++ (spelled place ++ 32 ∷ (spelled e.caller ++ x))) (sym (append_assoc (words_behind a) (words_behind r) t) ∙ ap (λ x. x ++ t) (words_join a r))
+    ∙ ap (λ x. old ++ (spelled place ++ 32 ∷ (spelled e.caller ++ x))) (sym (append_assoc (words_behind a) (words_behind r) t) ∙
+    ap (λ x. x ++ t) (words_join a r))
     ∙ ap (λ x. old ++ (spelled place ++ x)) (sym (append_assoc (32 ∷ spelled e.caller) (words_behind (a ++ r)) t))
     ∙ ap (λ x. old ++ x) (sym (append_assoc (spelled place) (words_behind (entry_words e)) t))
     ∙ ap (λ x. old ++ x) (one_text (entry_text place e))

@@ -46,7 +46,8 @@ lines_of-push_claim (y ∷ es) (d ∷ cs) e c here as_many =
     ]
 
 -- a line without a certificate, behind the others
-pub push_plain : (es new : List Entry) (cs : List Claim) (now : History) (x : Line) → new ≡ es ++ x.entry ∷ [] → lines_of es cs ≡ now → x.certificate ≡ None → is_some x.certificate ≡ is_some (published_position x.entry.act) →
+pub push_plain : (es new : List Entry) (cs : List Claim) (now : History) (x : Line) → new ≡ es ++ x.entry ∷ [] → lines_of es cs ≡ now → x.certificate ≡ None →
+    is_some x.certificate ≡ is_some (published_position x.entry.act) →
     lines_of new cs ≡ now ++ x ∷ []
 push_plain es new cs now x entries before none fits =
     let plain : publishes x.entry ≡ false = sym fits ∙ ap (λ (o : Option Claim). is_some o) none in
@@ -54,7 +55,8 @@ push_plain es new cs now x entries before none fits =
     ∙ ap (λ (o : Option Claim). lines_of es cs ++ record { entry = x.entry; certificate = o } ∷ []) (sym none) ∙ ap (λ H. H ++ x ∷ []) before
 
 -- a line with one
-pub push_certified : (es new : List Entry) (cs ds : List Claim) (now : History) (x : Line) (c : Claim) → new ≡ es ++ x.entry ∷ [] → ds ≡ cs ++ c ∷ [] → lines_of es cs ≡ now → length cs ≡ publications es → x.certificate ≡ Some c → is_some x.certificate ≡ is_some (published_position x.entry.act) →
+pub push_certified : (es new : List Entry) (cs ds : List Claim) (now : History) (x : Line) (c : Claim) → new ≡ es ++ x.entry ∷ [] → ds ≡ cs ++ c ∷ [] →
+    lines_of es cs ≡ now → length cs ≡ publications es → x.certificate ≡ Some c → is_some x.certificate ≡ is_some (published_position x.entry.act) →
     lines_of new ds ≡ now ++ x ∷ []
 push_certified es new cs ds now x c entries certificates before as_many some fits =
     let here : publishes x.entry ≡ true = sym fits ∙ ap (λ (o : Option Claim). is_some o) some in

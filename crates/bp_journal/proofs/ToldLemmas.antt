@@ -28,7 +28,8 @@ pair_told P Q a x b y false true first second = λ within. second within.1
 pair_told {X} {Y} P Q a x b y false false first second = ((first.0, second.0), ap (λ (z : X). (z, y)) first.1 ∙ ap (λ (z : Y). (a, z)) second.1)
 
 -- a value that is built of another
-pub built_told : {X Y : Type 0} (P : X → Type 0) (Q : Y → Type 0) (F : X → Y) (a x : X) (g : Bool) → (P a → Q (F a)) → (Q (F a) → P a) → IsTold P a x g → IsTold Q (F a) (F x) g
+pub built_told : {X Y : Type 0} (P : X → Type 0) (Q : Y → Type 0) (F : X → Y) (a x : X) (g : Bool) → (P a → Q (F a)) → (Q (F a) → P a) → IsTold P a x g →
+    IsTold Q (F a) (F x) g
 built_told P Q F a x true within back is = λ q. is (back q)
 built_told P Q F a x false within back is = (within is.0, ap F is.1)
 
@@ -36,7 +37,8 @@ pub told_by : {X : Type 0} (P : X → Type 0) (a x : X) (g h : Bool) → g ≡ h
 told_by P a x g h e is = let Q : Bool → Type 0 = λ b. IsTold P a x b in subst Q (sym e) is
 
 -- two numbers
-pub two_told : {X : Type 0} (Q : X → Type 0) (F : ℕ → ℕ → X) (p q m n : ℕ) (s t : Counted) (g : Bool) → ((m ≤ p) × (n ≤ q) → Q (F m n)) → (Q (F m n) → (m ≤ p) × (n ≤ q))
+pub two_told : {X : Type 0} (Q : X → Type 0) (F : ℕ → ℕ → X) (p q m n : ℕ) (s t : Counted) (g : Bool) → ((m ≤ p) × (n ≤ q) → Q (F m n)) →
+    (Q (F m n) → (m ≤ p) × (n ≤ q))
     → IsCounted p m s → IsCounted q n t → g ≡ (s.great || t.great) → IsTold Q (F m n) (F s.value t.value) g
 two_told Q F p q m n s t g within back first second either =
     told_by Q (F m n) (F s.value t.value) g (s.great || t.great) either
@@ -44,21 +46,29 @@ two_told Q F p q m n s t g within back first second either =
     (pair_told (λ k. k ≤ p) (λ k. k ≤ q) m s.value n t.value s.great t.great (number_told p m s first) (number_told q n t second)))
 
 -- three numbers
-pub three_told : {X : Type 0} (Q : X → Type 0) (F : ℕ → ℕ → ℕ → X) (p q r m n k : ℕ) (s t u : Counted) (g h : Bool) → (((m ≤ p) × (n ≤ q)) × (k ≤ r) → Q (F m n k)) → (Q (F m n k) → ((m ≤ p) × (n ≤ q)) × (k ≤ r))
+pub three_told : {X : Type 0} (Q : X → Type 0) (F : ℕ → ℕ → ℕ → X) (p q r m n k : ℕ) (s t u : Counted) (g h : Bool) →
+    (((m ≤ p) × (n ≤ q)) × (k ≤ r) → Q (F m n k)) → (Q (F m n k) → ((m ≤ p) × (n ≤ q)) × (k ≤ r))
     → IsCounted p m s → IsCounted q n t → IsCounted r k u → h ≡ (s.great || t.great) → g ≡ (h || u.great) → IsTold Q (F m n k) (F s.value t.value u.value) g
 three_told Q F p q r m n k s t u g h within back first second third two either =
     told_by Q (F m n k) (F s.value t.value u.value) g (h || u.great) either
-    (built_told (λ (z : (ℕ × ℕ) × ℕ). ((z.0.0 ≤ p) × (z.0.1 ≤ q)) × (z.1 ≤ r)) Q (λ z. F z.0.0 z.0.1 z.1) ((m, n), k) ((s.value, t.value), u.value) (h || u.great) within back
+    (built_told (λ (z : (ℕ × ℕ) × ℕ). ((z.0.0 ≤ p) × (z.0.1 ≤ q)) × (z.1 ≤ r)) Q (λ z. F z.0.0 z.0.1 z.1) ((m, n), k) (
+      (s.value, t.value),
+      u.value,
+    ) (h || u.great) within back
     (pair_told (λ (z : ℕ × ℕ). (z.0 ≤ p) × (z.1 ≤ q)) (λ j. j ≤ r) (m, n) (s.value, t.value) k u.value h u.great
     (two_told (λ (z : ℕ × ℕ). (z.0 ≤ p) × (z.1 ≤ q)) (λ i j. (i, j)) p q m n s t h (λ w. w) (λ w. w) first second two) (number_told r k u third)))
 
 -- four numbers
 pub four_told : {X : Type 0} (Q : X → Type 0) (F : ℕ → ℕ → ℕ → ℕ → X) (p q r o m n k l : ℕ) (s t u v : Counted) (g a b : Bool)
     → (((m ≤ p) × (n ≤ q)) × ((k ≤ r) × (l ≤ o)) → Q (F m n k l)) → (Q (F m n k l) → ((m ≤ p) × (n ≤ q)) × ((k ≤ r) × (l ≤ o)))
-    → IsCounted p m s → IsCounted q n t → IsCounted r k u → IsCounted o l v → a ≡ (s.great || t.great) → b ≡ (u.great || v.great) → g ≡ (a || b) → IsTold Q (F m n k l) (F s.value t.value u.value v.value) g
+    → IsCounted p m s → IsCounted q n t → IsCounted r k u → IsCounted o l v → a ≡ (s.great || t.great) → b ≡ (u.great || v.great) → g ≡ (a || b) →
+    IsTold Q (F m n k l) (F s.value t.value u.value v.value) g
 four_told Q F p q r o m n k l s t u v g a b within back first second third fourth two others either =
     told_by Q (F m n k l) (F s.value t.value u.value v.value) g (a || b) either
-    (built_told (λ (z : (ℕ × ℕ) × (ℕ × ℕ)). ((z.0.0 ≤ p) × (z.0.1 ≤ q)) × ((z.1.0 ≤ r) × (z.1.1 ≤ o))) Q (λ z. F z.0.0 z.0.1 z.1.0 z.1.1) ((m, n), (k, l)) ((s.value, t.value), (u.value, v.value)) (a || b) within back
+    (built_told (λ (z : (ℕ × ℕ) × (ℕ × ℕ)). ((z.0.0 ≤ p) × (z.0.1 ≤ q)) × ((z.1.0 ≤ r) × (z.1.1 ≤ o))) Q (λ z. F z.0.0 z.0.1 z.1.0 z.1.1) (
+      (m, n),
+      (k, l),
+    ) ((s.value, t.value), (u.value, v.value)) (a || b) within back
     (pair_told (λ (z : ℕ × ℕ). (z.0 ≤ p) × (z.1 ≤ q)) (λ (z : ℕ × ℕ). (z.0 ≤ r) × (z.1 ≤ o)) (m, n) (s.value, t.value) (k, l) (u.value, v.value) a b
     (two_told (λ (z : ℕ × ℕ). (z.0 ≤ p) × (z.1 ≤ q)) (λ i j. (i, j)) p q m n s t a (λ w. w) (λ w. w) first second two)
     (two_told (λ (z : ℕ × ℕ). (z.0 ≤ r) × (z.1 ≤ o)) (λ i j. (i, j)) r o k l u v b (λ w. w) (λ w. w) third fourth others)))
@@ -71,7 +81,14 @@ pub entry_told : (e : Entry) (caller : Counted) (act : ToldAct) (reply : ToldRep
     → IsTold IsEntryWithin e (record { caller = caller.value; act = act.act; reply = reply.reply }) ((caller.great || act.great) || reply.great)
 entry_told e caller act reply is =
     let IsCaller : ℕ → Type 0 = λ k. k ≤ MOST_HALF in
-    let first = pair_told IsCaller IsActWithin e.caller caller.value e.act act.act caller.great act.great (number_told MOST_HALF e.caller caller is.caller_is) is.act_is.told in
-    let both = pair_told (λ (p : ℕ × Act). IsCaller p.0 × IsActWithin p.1) IsReplyWithin (e.caller, e.act) (caller.value, act.act) e.reply reply.reply (caller.great || act.great) reply.great first is.reply_is in
-    built_told (λ (p : (ℕ × Act) × Reply). (IsCaller p.0.0 × IsActWithin p.0.1) × IsReplyWithin p.1) IsEntryWithin entry_of ((e.caller, e.act), e.reply) ((caller.value, act.act), reply.reply) ((caller.great || act.great) || reply.great)
+    let first = pair_told IsCaller IsActWithin e.caller caller.value e.act act.act caller.great act.great (number_told MOST_HALF e.caller caller is.caller_is)
+    is.act_is.told in
+    let both = pair_told (λ (p : ℕ × Act). IsCaller p.0 × IsActWithin p.1) IsReplyWithin (e.caller, e.act) (
+      caller.value,
+      act.act,
+    ) e.reply reply.reply (caller.great || act.great) reply.great first is.reply_is in
+    built_told (λ (p : (ℕ × Act) × Reply). (IsCaller p.0.0 × IsActWithin p.0.1) × IsReplyWithin p.1) IsEntryWithin entry_of (
+      (e.caller, e.act),
+      e.reply,
+    ) ((caller.value, act.act), reply.reply) ((caller.great || act.great) || reply.great)
     (λ w. record { caller = w.0.0; act = w.0.1; reply = w.1 }) (λ w. ((w.caller, w.act), w.reply)) both

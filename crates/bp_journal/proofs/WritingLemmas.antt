@@ -1,5 +1,32 @@
 -- What of a history is written, place by place.
-use Rattle.std.proofs.Common.{◌≡◌, ℕ, ◌+◌, ◌<◌, ◌≤◌, refl, ap, sym, subst, ◌∙◌, arith, List, [], ◌∷◌, ◌++◌, length, take, drop, append_assoc, append-nil, Option, Some, None, Result, IsErr, slice_get}
+use Rattle.std.proofs.Common.{
+  ◌≡◌,
+  ℕ,
+  ◌+◌,
+  ◌<◌,
+  ◌≤◌,
+  refl,
+  ap,
+  sym,
+  subst,
+  ◌∙◌,
+  arith,
+  List,
+  [],
+  ◌∷◌,
+  ◌++◌,
+  length,
+  take,
+  drop,
+  append_assoc,
+  append-nil,
+  Option,
+  Some,
+  None,
+  Result,
+  IsErr,
+  slice_get,
+}
 use Rattle.std.specs.Prelude.{option_and_then}
 use Rattle.std.specs.Option.{option_map}
 use Rattle.std.proofs.lemmas.List.{take-append-drop, length-take-le, take_all}
@@ -47,15 +74,18 @@ behind_so_far H n =
 
 -- the lines at a place went well
 pub place_drafted : (before middle now : Option (List ℕ)) (old draft new : List ℕ) (H : History) (n : ℕ) → n < length H
-    → IsDrafted before middle draft (old ++ so_far H n) → IsDrafted middle now new (draft ++ place_text H n) → IsDrafted before now new (old ++ so_far H (n + 1))
+    → IsDrafted before middle draft (old ++ so_far H n) → IsDrafted middle now new (draft ++ place_text H n) →
+    IsDrafted before now new (old ++ so_far H (n + 1))
 place_drafted before middle now old draft new H n within first second =
     let P : List ℕ → Type 0 = λ t. IsDrafted before now new t in
     subst P (append_assoc old (so_far H n) (place_text H n) ∙ ap (λ t. old ++ t) (sym (so_far_more H n within)))
     (drafted_more draft new (old ++ so_far H n) (place_text H n) first second)
 
 -- or they were refused
-pub place_refused : {E : Type 0} (before middle now : Option (List ℕ)) (old draft new : List ℕ) (H : History) (n : ℕ) (result : Result (Unit {0}) E) → n < length H
-    → IsDrafted before middle draft (old ++ so_far H n) → AppendedPrefix middle now (draft ++ place_text H n) → IsErr result → Drafts before now old new (text_of (lines_from 0 H)) result
+pub place_refused : {E : Type 0} (before middle now : Option (List ℕ)) (old draft new : List ℕ) (H : History) (n : ℕ) (result : Result (Unit {0}) E) →
+    n < length H
+    → IsDrafted before middle draft (old ++ so_far H n) → AppendedPrefix middle now (draft ++ place_text H n) → IsErr result →
+    Drafts before now old new (text_of (lines_from 0 H)) result
 place_refused before middle now old draft new H n result within first second refused =
     let rest = text_of (lines_from (0 + length (take (n + 1) H)) (drop (n + 1) H)) in
     let whole : old ++ text_of (lines_from 0 H) ≡ ((old ++ so_far H n) ++ place_text H n) ++ rest =
@@ -64,16 +94,19 @@ place_refused before middle now old draft new H n result within first second ref
     ∙ ap (λ t. t ++ rest) (sym (append_assoc old (so_far H n) (place_text H n))) in
     let P : List ℕ → Type 0 = λ t. AppendedPrefix before now t in
     Drafts-refused before now old new (text_of (lines_from 0 H)) result refused
-    (subst P (sym whole) (AppendedPrefix-longer ((old ++ so_far H n) ++ place_text H n) rest (refused_more draft (old ++ so_far H n) (place_text H n) first second)))
+    (subst P (sym whole) (AppendedPrefix-longer ((old ++ so_far H n) ++ place_text H n) rest
+    (refused_more draft (old ++ so_far H n) (place_text H n) first second)))
 
 -- behind the last place
-pub all_drafted : (before now : Option (List ℕ)) (old new : List ℕ) (H : History) (n : ℕ) → length H ≤ n → IsDrafted before now new (old ++ so_far H n) → IsDrafted before now new (old ++ text_of (lines_from 0 H))
+pub all_drafted : (before now : Option (List ℕ)) (old new : List ℕ) (H : History) (n : ℕ) → length H ≤ n → IsDrafted before now new (old ++ so_far H n) →
+    IsDrafted before now new (old ++ text_of (lines_from 0 H))
 all_drafted before now old new H n all first =
     let P : History → Type 0 = λ G. IsDrafted before now new (old ++ text_of (lines_from 0 G)) in
     subst P (take_all n H all) first
 
 -- the entry at a place is its line's
-pub entry_of : (H : History) (place : ℕ) (e : Entry) → place < length H → Some e ≡ option_map (λ (x : Line). x.entry) (slice_get H place) → e ≡ (line_at H place).entry
+pub entry_of : (H : History) (place : ℕ) (e : Entry) → place < length H → Some e ≡ option_map (λ (x : Line). x.entry) (slice_get H place) →
+    e ≡ (line_at H place).entry
 entry_of H place e within is =
     let f : Some e ≡ Some (line_at H place).entry = is ∙ ap (option_map (λ (x : Line). x.entry)) (slice_get-get_or H place no_line within) in
     cc
@@ -83,7 +116,8 @@ pub certificate_of : (H : History) (place : ℕ) → place < length H → certif
 certificate_of H place within = ap (option_and_then (λ (x : Line). x.certificate)) (slice_get-get_or H place no_line within)
 
 -- the lines at a place, in two parts
-pub place_in_two : (H : History) (place : ℕ) (e : Entry) (c : Option Claim) → e ≡ (line_at H place).entry → c ≡ (line_at H place).certificate → place_text H place ≡ text_of (entry_text place e ∷ []) ++ text_of (certificate_part c)
+pub place_in_two : (H : History) (place : ℕ) (e : Entry) (c : Option Claim) → e ≡ (line_at H place).entry → c ≡ (line_at H place).certificate →
+    place_text H place ≡ text_of (entry_text place e ∷ []) ++ text_of (certificate_part c)
 place_in_two H place e c entry certificate =
     text_of-append (entry_text place (line_at H place).entry ∷ []) (certificate_part (line_at H place).certificate)
     ∙ ap (λ (f : Entry). text_of (entry_text place f ∷ []) ++ text_of (certificate_part (line_at H place).certificate)) (sym entry)
@@ -91,24 +125,30 @@ place_in_two H place e c entry certificate =
 
 -- the line of an entry was refused
 pub place_stopped : {E : Type 0} (before now : Option (List ℕ)) (old new bytes : List ℕ) (H : History) (place : ℕ) (e : Entry) (result : Result (Unit {0}) E)
-    → e ≡ (line_at H place).entry → bytes ≡ text_of (entry_text place e ∷ []) → IsErr result → AppendedPrefix before now (old ++ bytes) → Drafts before now old new (place_text H place) result
+    → e ≡ (line_at H place).entry → bytes ≡ text_of (entry_text place e ∷ []) → IsErr result → AppendedPrefix before now (old ++ bytes) →
+    Drafts before now old new (place_text H place) result
 place_stopped before now old new bytes H place e result entry is refused part =
     let c = (line_at H place).certificate in
     let P : List ℕ → Type 0 = λ t. AppendedPrefix before now (old ++ t) in
-    let two : bytes ++ text_of (certificate_part c) ≡ place_text H place = ap (λ t. t ++ text_of (certificate_part c)) is ∙ sym (place_in_two H place e c entry refl) in
+    let two : bytes ++ text_of (certificate_part c) ≡ place_text H place = ap (λ t. t ++ text_of (certificate_part c)) is ∙
+    sym (place_in_two H place e c entry refl) in
     Drafts-refused before now old new (place_text H place) result refused (subst P two (refused_longer old bytes (text_of (certificate_part c)) part))
 
 -- an entry without a certificate
 pub place_plain : (before now : Option (List ℕ)) (old new bytes : List ℕ) (H : History) (place : ℕ) (e : Entry)
-    → e ≡ (line_at H place).entry → bytes ≡ text_of (entry_text place e ∷ []) → None ≡ (line_at H place).certificate → IsDrafted before now new (old ++ bytes) → IsDrafted before now new (old ++ place_text H place)
+    → e ≡ (line_at H place).entry → bytes ≡ text_of (entry_text place e ∷ []) → None ≡ (line_at H place).certificate →
+    IsDrafted before now new (old ++ bytes) → IsDrafted before now new (old ++ place_text H place)
 place_plain before now old new bytes H place e entry is none first =
     let P : List ℕ → Type 0 = λ t. IsDrafted before now new (old ++ t) in
     subst P (is ∙ sym (append-nil (text_of (entry_text place e ∷ []))) ∙ sym (place_in_two H place e None entry none)) first
 
 -- an entry with one
-pub place_certified : {E : Type 0} (before middle now : Option (List ℕ)) (old draft new bytes : List ℕ) (H : History) (place : ℕ) (e : Entry) (c : Claim) (result : Result (Unit {0}) E)
-    → e ≡ (line_at H place).entry → bytes ≡ text_of (entry_text place e ∷ []) → Some c ≡ (line_at H place).certificate → IsDrafted before middle draft (old ++ bytes)
+pub place_certified : {E : Type 0} (before middle now : Option (List ℕ)) (old draft new bytes : List ℕ) (H : History) (place : ℕ) (e : Entry) (c : Claim)
+    (result : Result (Unit {0}) E)
+    → e ≡ (line_at H place).entry → bytes ≡ text_of (entry_text place e ∷ []) → Some c ≡ (line_at H place).certificate →
+    IsDrafted before middle draft (old ++ bytes)
     → Drafts middle now draft new (text_of (claim_lines c)) result → Drafts before now old new (place_text H place) result
 place_certified before middle now old draft new bytes H place e c result entry is some first second =
     let P : List ℕ → Type 0 = λ t. Drafts before now old new t result in
-    subst P (ap (λ t. t ++ text_of (claim_lines c)) is ∙ sym (place_in_two H place e (Some c) entry some)) (Drafts-append before middle now old draft new bytes (text_of (claim_lines c)) result first second)
+    subst P (ap (λ t. t ++ text_of (claim_lines c)) is ∙
+    sym (place_in_two H place e (Some c) entry some)) (Drafts-append before middle now old draft new bytes (text_of (claim_lines c)) result first second)

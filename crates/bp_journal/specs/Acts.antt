@@ -6,7 +6,20 @@ use Rattle.bp_text.specs.Words.{Word}
 use Rattle.bp_core.specs.declared.line.Act.{Act}
 use Rattle.bp_core.specs.declared.line.Act.TheVariants.{Do, Publish, Enrol, Leave}
 use Rattle.bp_core.specs.declared.line.Reply.{Reply}
-use Rattle.bp_core.specs.declared.line.Reply.TheVariants.{Accepted, TooLow, NoRoom, Cancelled, NotBooked, AlreadyCancelled, Done, BelowSold, GroupAccepted, GroupTooLow, GroupNoRoom, Vector}
+use Rattle.bp_core.specs.declared.line.Reply.TheVariants.{
+  Accepted,
+  TooLow,
+  NoRoom,
+  Cancelled,
+  NotBooked,
+  AlreadyCancelled,
+  Done,
+  BelowSold,
+  GroupAccepted,
+  GroupTooLow,
+  GroupNoRoom,
+  Vector,
+}
 use Rattle.bp_core.specs.Lines.{is_done}
 
 -- the word of a command, and its numbers

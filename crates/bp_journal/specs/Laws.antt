@@ -36,4 +36,5 @@ LegalIsWithin = (h : Inn) (H : History) → IsHouse h → IsLegal h H → All Is
 -- so what is written of it is read as this very history, want of memory apart
 abbrev pub WrittenIsRead : Type 0
 WrittenIsRead =
-    (h : Inn) (H : History) (answer : Result History TextError) → IsHouse h → IsLegal h H → answer ≢ Err Memory → IsJournalText (journal_text H) answer → answer ≡ Ok H
+    (h : Inn) (H : History) (answer : Result History TextError) → IsHouse h → IsLegal h H → answer ≢ Err Memory → IsJournalText (journal_text H) answer →
+    answer ≡ Ok H

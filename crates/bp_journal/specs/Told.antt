@@ -41,7 +41,8 @@ IsActRead version old new (Some t) = (a : Act) × (is_known version a ≡ true) 
 -- behind this word the numbers of a reply that fits stand, or they do not
 abbrev pub IsReplyBehind : (Reply → Bool) → Word → List Word → List Word → Option ToldReply → Type 0
 IsReplyBehind fits word old new None = (r : Reply) (more : List Word) → fits r ≡ true → reply_word r ≡ word → (old ≡ map spelled (reply_numbers r) ++ more) → ⊥
-IsReplyBehind fits word old new (Some t) = (r : Reply) × (fits r ≡ true) × (reply_word r ≡ word) × (old ≡ map spelled (reply_numbers r) ++ new) × IsReplyTold r t
+IsReplyBehind fits word old new (Some t) = (r : Reply) × (fits r ≡ true) × (reply_word r ≡ word) × (old ≡ map spelled (reply_numbers r) ++ new) ×
+    IsReplyTold r t
 
 -- the words begin with those of a reply that fits, or they do not
 abbrev pub IsReplyRead : (Reply → Bool) → List Word → List Word → Option ToldReply → Type 0

@@ -34,7 +34,8 @@ pub(crate) fn entry_line(line: &[u8], place: u64, version: Version) -> Found
 
 /// Whether the next word is this place.
 fn is_place(words: &mut Words<'_>, place: u64) -> bool
-    ensures { MatchBool result (words.old ≡ spelled place ∷ words.new) ((more : List Word) → words.old ≡ spelled place ∷ more → ⊥) }
+    ensures { MatchBool result (words.old ≡ spelled place ∷ words.new) ((more : List Word) →
+        words.old ≡ spelled place ∷ more → ⊥) }
 {
     let wanted = u128::from(place);
     match words.number(wanted) {

@@ -2,14 +2,22 @@
 
 ghost use Rattle.bp_text.specs.Laws.{HasOneSpelling, IsPrefixFree};
 ghost use Rattle.bp_journal.specs.Journals.{noted_lines};
-ghost use Rattle.bp_journal.specs.Laws.{EntriesAreTold, VersionsAreTold, OneReading, LegalIsJournal, LegalIsWithin, WrittenIsRead};
+ghost use Rattle.bp_journal.specs.Laws.{
+  EntriesAreTold,
+  VersionsAreTold,
+  OneReading,
+  LegalIsJournal,
+  LegalIsWithin,
+  WrittenIsRead,
+};
 
 /// Different entries are spelt differently.
 pub fn entries_are_told()
     ensures { EntriesAreTold }
 {}
 
-/// No two journals have one text, and none goes on behind another; no text is of both versions, and bytes are read in one
+/// No two journals have one text, and none goes on behind another; no text is of both versions, and bytes are read in
+/// one
 /// way.
 pub fn journals_have_one_spelling()
     ensures spelling { HasOneSpelling noted_lines }

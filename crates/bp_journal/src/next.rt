@@ -14,7 +14,8 @@ use bp_text::{Lines, TextError};
 
 /// The version that the first line names.
 pub(crate) fn version(lines: &mut Lines<'_>) -> Result<Version, TextError>
-    ensures { MatchResult result (λ version. GivesLine lines.old lines.new (version_line version)) (IsRefusedLine IsVersionLine IsAnyLine lines.old lines.new) }
+    ensures { MatchResult result (λ version. GivesLine lines.old lines.new (version_line version))
+        (IsRefusedLine IsVersionLine IsAnyLine lines.old lines.new) }
 {
     let Some(line) = lines.take_line() else {
         return Err(TextError::TooShort);
@@ -37,7 +38,8 @@ pub(crate) fn entry(
     version: Version,
 ) -> Result<Option<Entry>, TextError>
     ensures { MatchResult result
-        (λ o. MatchOption o (GivesLine lines.old lines.new (codes "end")) (λ e. IsTrue (is_form version e) × IsEntryWithin e × GivesLine lines.old lines.new (entry_text place e)))
+        (λ o. MatchOption o (GivesLine lines.old lines.new (codes "end")) (λ e. IsTrue (is_form version e) ×
+        IsEntryWithin e × GivesLine lines.old lines.new (entry_text place e)))
         (IsRefusedLine (IsEntryOrEnd version place) (IsFineLine version place) lines.old lines.new) }
 {
     let Some(line) = lines.take_line() else {

@@ -9,7 +9,8 @@ use bp_text::{Counted, Words};
 pub(crate) fn two(words: &mut Words<'_>, first: u128, second: u128) -> Option<(Counted, Counted)>
     ensures { MatchOption result
         ((m n : ℕ) (more : List Word) → words.old ≡ spelled m ∷ spelled n ∷ more → ⊥)
-        (λ r. (m : ℕ) × (n : ℕ) × (words.old ≡ spelled m ∷ spelled n ∷ words.new) × IsCounted first m r.0 × IsCounted second n r.1) }
+        (λ r. (m : ℕ) × (n : ℕ) × (words.old ≡ spelled m ∷ spelled n ∷ words.new) × IsCounted first m r.0 ×
+        IsCounted second n r.1) }
 {
     let Some(one) = words.number(first) else {
         return None;

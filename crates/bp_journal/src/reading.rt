@@ -46,7 +46,8 @@ fn room_for(alloc: Global, bytes: usize) -> Result<Journal, AllocError>
 /// Reads the first line, the entries and the last line.
 fn read_lines(alloc: Global, lines: &mut Lines<'_>, journal: &mut Journal) -> Result<(), TextError>
     requires { journal.old ≡ [] }
-    ensures { MatchResult result (λ _. IsNoted lines.old lines.new journal.new) (λ e. IsReading noted_lines IsNotedWithin lines.old lines.new (Err e)) }
+    ensures { MatchResult result (λ _. IsNoted lines.old lines.new journal.new)
+        (λ e. IsReading noted_lines IsNotedWithin lines.old lines.new (Err e)) }
 {
     let version = next::version(lines)?;
     read_entries(alloc, lines, version, journal)
@@ -61,8 +62,10 @@ fn read_entries(
 ) -> Result<(), TextError>
     requires { journal.old ≡ [] }
     ensures { MatchResult result
-        (λ _. IsTrue (is_journal version journal.new) × All IsLineWithin journal.new × GivesLines lines.old lines.new (lines_from 0 journal.new ++ codes "end" ∷ []) lines.new.rest)
-        (λ e. (start : Given) → GivesLines start lines.old (version_line version ∷ []) lines.old.rest → IsReading noted_lines IsNotedWithin start lines.new (Err e)) }
+        (λ _. IsTrue (is_journal version journal.new) × All IsLineWithin journal.new ×
+        GivesLines lines.old lines.new (lines_from 0 journal.new ++ codes "end" ∷ []) lines.new.rest)
+        (λ e. (start : Given) → GivesLines start lines.old (version_line version ∷ []) lines.old.rest →
+        IsReading noted_lines IsNotedWithin start lines.new (Err e)) }
 {
     while let Some(line) = read_line(alloc, lines, journal.len() as u64, version)? {
         journal.push(line)?;

@@ -1,7 +1,14 @@
 //! The reply of an entry, from the words of its line.
 ghost use Rattle.std.specs.Prelude.{◌≡◌, false, Some, codes};
 ghost use Rattle.bp_core.specs.Lines.{is_done};
-ghost use Rattle.bp_journal.specs.Acts.{is_book_reply, is_cancel_reply, is_resize_reply, is_group_reply, is_publish_reply, is_reply_of};
+ghost use Rattle.bp_journal.specs.Acts.{
+  is_book_reply,
+  is_cancel_reply,
+  is_resize_reply,
+  is_group_reply,
+  is_publish_reply,
+  is_reply_of,
+};
 ghost use Rattle.bp_journal.specs.Told.{IsReplyBehind, IsReplyRead};
 
 use crate::limits::{MOST_DISPLACEMENT, MOST_HALF, MOST_NUMBER};

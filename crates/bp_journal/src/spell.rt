@@ -2,7 +2,14 @@
 ghost use Rattle.std.specs.Prelude.{◌≡◌, ◌++◌, ◌∷◌, [], OnOk};
 ghost use Rattle.bp_text.specs.Lines.{text_of};
 ghost use Rattle.bp_text.specs.Words.{words_behind, phrase};
-ghost use Rattle.bp_journal.specs.Acts.{act_word, act_numbers, command_word, command_numbers, reply_word, reply_numbers};
+ghost use Rattle.bp_journal.specs.Acts.{
+  act_word,
+  act_numbers,
+  command_word,
+  command_numbers,
+  reply_word,
+  reply_numbers,
+};
 ghost use Rattle.bp_journal.specs.Journals.{entry_text};
 
 use bp_core::{Act, Entry, Reply};
@@ -36,7 +43,8 @@ fn push_wide(text: &mut Vec<u8>, word: &[u8], number: u128) -> Result<(), AllocE
 }
 
 fn push_command(text: &mut Vec<u8>, command: Command) -> Result<(), AllocError>
-    ensures { OnOk result (text.new.items ≡ text.old.items ++ words_behind (phrase (command_word command) (command_numbers command))) }
+    ensures { OnOk result (text.new.items ≡
+        text.old.items ++ words_behind (phrase (command_word command) (command_numbers command))) }
 {
     match command {
         Command::Book { stay } => push_phrase(text, b"book", &[u64::from(stay)]),
@@ -76,7 +84,8 @@ fn push_act(text: &mut Vec<u8>, act: Act) -> Result<(), AllocError>
 }
 
 fn push_reply(text: &mut Vec<u8>, reply: Reply) -> Result<(), AllocError>
-    ensures { OnOk result (text.new.items ≡ text.old.items ++ words_behind (phrase (reply_word reply) (reply_numbers reply))) }
+    ensures { OnOk result (text.new.items ≡
+        text.old.items ++ words_behind (phrase (reply_word reply) (reply_numbers reply))) }
 {
     match reply {
         Reply::Accepted { vector, sum } => push_phrase(text, b"accepted", &[vector, sum]),

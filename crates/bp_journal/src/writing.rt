@@ -34,7 +34,8 @@ fn draft_journal<K: Sink>(
     book: &Book,
     out: &mut K,
 ) -> Result<(), WriteError>
-    ensures writes { Drafts (K.written out.old) (K.written out.new) draft.old draft.new (journal_text book.now.history) result }
+    ensures writes { Drafts (K.written out.old) (K.written out.new) draft.old draft.new (journal_text book.now.history)
+        result }
     ensures failed { IsErrOf result WriteError.Failed → Rose (K.faults out.old) (K.faults out.new) }
     ensures unfailing { K.steady out.old → ¬ IsErrOf result WriteError.Failed }
     ensures steady { K.steady out.old → K.steady out.new }
@@ -52,7 +53,8 @@ fn draft_history<K: Sink>(
     book: &Book,
     out: &mut K,
 ) -> Result<(), WriteError>
-    ensures writes { Drafts (K.written out.old) (K.written out.new) draft.old draft.new (text_of (lines_from 0 book.now.history)) result }
+    ensures writes { Drafts (K.written out.old) (K.written out.new) draft.old draft.new
+        (text_of (lines_from 0 book.now.history)) result }
     ensures failed { IsErrOf result WriteError.Failed → Rose (K.faults out.old) (K.faults out.new) }
     ensures unfailing { K.steady out.old → ¬ IsErrOf result WriteError.Failed }
     ensures steady { K.steady out.old → K.steady out.new }
@@ -76,7 +78,8 @@ fn draft_place<K: Sink>(
 ) -> Result<(), WriteError>
     requires within { place < length book.now.history }
     requires empty { line.old.items ≡ [] }
-    ensures writes { Drafts (K.written out.old) (K.written out.new) draft.old draft.new (text_of (place_lines book.now.history place)) result }
+    ensures writes { Drafts (K.written out.old) (K.written out.new) draft.old draft.new
+        (text_of (place_lines book.now.history place)) result }
     ensures failed { IsErrOf result WriteError.Failed → Rose (K.faults out.old) (K.faults out.new) }
     ensures unfailing { K.steady out.old → ¬ IsErrOf result WriteError.Failed }
     ensures steady { K.steady out.old → K.steady out.new }

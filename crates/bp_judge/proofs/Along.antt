@@ -1,5 +1,26 @@
 -- What goes along a history goes along each longer one.
-use Rattle.std.proofs.Common.{◌≡◌, ℕ, ◌∙◌, refl, sym, subst, ap, arith, true, false, [], ◌∷◌, ◌++◌, length, Option, Some, None, MatchOption, unwrap_or, length-append}
+use Rattle.std.proofs.Common.{
+  ◌≡◌,
+  ℕ,
+  ◌∙◌,
+  refl,
+  sym,
+  subst,
+  ap,
+  arith,
+  true,
+  false,
+  [],
+  ◌∷◌,
+  ◌++◌,
+  length,
+  Option,
+  Some,
+  None,
+  MatchOption,
+  unwrap_or,
+  length-append,
+}
 use Rattle.std.proofs.lemmas.List.{take-append-le}
 use Rattle.bp_types.specs.House.{Inn}
 use Rattle.bp_types.specs.declared.command.Command.{Command}
@@ -35,7 +56,8 @@ course_later h H x c is = record {
 solved_later : (h : Inn) (H : History) (x : Line) (s : Solved) → IsSolvedAt h H s → IsSolvedAt h (H ++ x ∷ []) s
 solved_later h H x s is = record { course = course_later h H x s.course is.course; program = is.program; settled = is.settled }
 
-perhaps_later : (h : Inn) (H : History) (x : Line) (o : Option Solved) → MatchOption o (Unit {0}) (IsSolvedAt h H) → MatchOption o (Unit {0}) (IsSolvedAt h (H ++ x ∷ []))
+perhaps_later : (h : Inn) (H : History) (x : Line) (o : Option Solved) → MatchOption o (Unit {0}) (IsSolvedAt h H) →
+    MatchOption o (Unit {0}) (IsSolvedAt h (H ++ x ∷ []))
 perhaps_later h H x None is = is
 perhaps_later h H x (Some s) is = solved_later h H x s is
 
@@ -50,7 +72,8 @@ pub last_moves : (H : History) (x : Line) (position : ℕ) → published_positio
 last_moves H x position some = last_value-push (λ (y : Line). published_position y.entry.act) 0 H x ∙ ap (λ (o : Option ℕ). unwrap_or o (last_position H)) some
 
 -- the trail goes on to a line that does not publish
-pub replay_later : (old new : Replay) (x : Line) → IsReplay old → new.trail ≡ old.trail → new.book ≡ record { house = old.book.house; history = old.book.history ++ x ∷ [] } → IsLegal new.book.house new.book.history →
+pub replay_later : (old new : Replay) (x : Line) → IsReplay old → new.trail ≡ old.trail →
+    new.book ≡ record { house = old.book.house; history = old.book.history ++ x ∷ [] } → IsLegal new.book.house new.book.history →
     published_position x.entry.act ≡ None → wants_quote old.book.house old.book.history x.entry.act ≡ false → IsReplay new
 replay_later old new x is trail book legal none skips =
     let H : History = old.book.history in
@@ -65,17 +88,23 @@ replay_later old new x is trail book legal none skips =
     }
 
 -- and to what a command was answered that wants no quote
-pub answered_replay : (old : Replay) (new : Diary) (caller : ℕ) (command : Command) (quoted : Option Quoted) (answer : Answer) → IsReplay old → IsAnswered old.book new caller (Do command quoted) answer → IsLegal new.house new.history →
-    (refusal old.book.house old.book.history (Do command quoted) ≡ None → wants_quote old.book.house old.book.history (DoAct command) ≡ false) → IsReplay (record { book = new; trail = old.trail })
+pub answered_replay : (old : Replay) (new : Diary) (caller : ℕ) (command : Command) (quoted : Option Quoted) (answer : Answer) → IsReplay old →
+    IsAnswered old.book new caller (Do command quoted) answer → IsLegal new.house new.history →
+    (refusal old.book.house old.book.history (Do command quoted) ≡ None → wants_quote old.book.house old.book.history (DoAct command) ≡ false) →
+    IsReplay (record { book = new; trail = old.trail })
 answered_replay old new caller command quoted answer is answered legal skips = go (refusal old.book.house old.book.history (Do command quoted)) refl answered
   where
-    go : (o : Option Answer) → refusal old.book.house old.book.history (Do command quoted) ≡ o → MatchOption o (IsLogged old.book new caller (Do command quoted) answer) (IsRefused old.book new answer) → IsReplay (record { book = new; trail = old.trail })
+    go : (o : Option Answer) → refusal old.book.house old.book.history (Do command quoted) ≡ o →
+        MatchOption o (IsLogged old.book new caller (Do command quoted) answer) (IsRefused old.book new answer) →
+        IsReplay (record { book = new; trail = old.trail })
     go None e l = replay_later old (record { book = new; trail = old.trail }) (line_of caller (Do command quoted) l.reply) is refl l.adds legal refl (skips e)
     go (Some a) e r = let P : Diary → Type 0 = λ d. IsReplay (record { book = d; trail = old.trail }) in subst P (sym r.1) is
 
 -- and to a Group with a quote, with the solver that found it
-pub quoted_replay : (old : Replay) (new : Diary) (trail : Trail) (caller : ℕ) (command : Command) (reply : Reply) → IsReplay old → GoesWith old.book.house old.book.history trail → trail.course ≡ old.trail.course → quoted_at trail ≡ Some (length old.book.history) →
-    wants_quote old.book.house old.book.history (DoAct command) ≡ true → Adds old.book new caller command reply → IsLegal new.house new.history → IsReplay (record { book = new; trail = trail })
+pub quoted_replay : (old : Replay) (new : Diary) (trail : Trail) (caller : ℕ) (command : Command) (reply : Reply) → IsReplay old →
+    GoesWith old.book.house old.book.history trail → trail.course ≡ old.trail.course → quoted_at trail ≡ Some (length old.book.history) →
+    wants_quote old.book.house old.book.history (DoAct command) ≡ true → Adds old.book new caller command reply → IsLegal new.house new.history →
+    IsReplay (record { book = new; trail = trail })
 quoted_replay old new trail caller command reply is goes same at wants adds legal =
     let h : Inn = old.book.house in
     let H : History = old.book.history in

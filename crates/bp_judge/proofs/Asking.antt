@@ -33,14 +33,16 @@ behind_is_stale b c position changes is =
 
 no_changes : (H : History) (p : ℕ) → p ≡ length H → changes_after H p ≡ 0
 no_changes H p e =
-    let none : drop p (take (length H) H) ≡ [] = ap (λ k. drop k (take (length H) H)) e ∙ ap (drop (length H)) (take_all (length H) H (omega arith)) ∙ drop_all (length H) H (omega arith) in
+    let none : drop p (take (length H) H) ≡ [] = ap (λ k. drop k (take (length H) H)) e ∙ ap (drop (length H)) (take_all (length H) H (omega arith)) ∙
+    drop_all (length H) H (omega arith) in
     ap (count_by is_change) none
 
 same_quote : (a b : Quoted) → Some a ≡ Some b → a ≡ b
 same_quote a b e = cc
 
 -- what a Group with a quote of this moment comes to
-pub asked_quoted : (old new : Diary) (caller : ℕ) (c : Command) (q : Quoted) (a : Answer) → q.position ≡ length old.history → IsSaid old new caller c (Some q) a → IsAsked old new caller c a
+pub asked_quoted : (old new : Diary) (caller : ℕ) (c : Command) (q : Quoted) (a : Answer) → q.position ≡ length old.history →
+    IsSaid old new caller c (Some q) a → IsAsked old new caller c a
 asked_quoted old new caller c q (Logged reply) at s = s
 asked_quoted old new caller c q HistoryFull at s = s.1
 asked_quoted old new caller c q (Behind position changes) at s = s.1
@@ -68,7 +70,8 @@ pub unquoted : (old new : Diary) (caller : ℕ) (c : Command) (a : Answer) → I
 unquoted old new caller c a s is = let P : Answer → Type 0 = λ x. IsSaid old new caller c None x in let t = subst P is s in (t.0, t.1.0)
 
 -- a command that is no Group needs none
-pub needs_no_quote : (old new : Diary) (caller : ℕ) (c : Command) (a : Answer) → ((s : Span) (r m : ℕ) → c ≡ Group s r m → ⊥) → IsSaid old new caller c None a → a ≡ Unquoted → ⊥
+pub needs_no_quote : (old new : Diary) (caller : ℕ) (c : Command) (a : Answer) → ((s : Span) (r m : ℕ) → c ≡ Group s r m → ⊥) →
+    IsSaid old new caller c None a → a ≡ Unquoted → ⊥
 needs_no_quote old new caller c a other s is = go c other (unquoted old new caller c a s is).1
   where
     go : (d : Command) → ((s : Span) (r m : ℕ) → d ≡ Group s r m → ⊥) → NeedsQuote old d → ⊥

@@ -17,7 +17,8 @@ use Rattle.bp_judge.specs.Searches.{is_group, HasNoGroup}
 use Rattle.bp_judge.specs.Judging.{IsFirstCause, IsFirstIllegal}
 
 -- each line so far is legal, and the next one has a cause
-at_seam : (h : Inn) (G rest : History) (x : Line) (cause : Cause) → ((i : ℕ) → i < length G → IsLegalLine h (take i G) (line_at G i)) → IsFirstCause h G x cause → IsFirstIllegal h (G ++ x ∷ rest) (length G) cause
+at_seam : (h : Inn) (G rest : History) (x : Line) (cause : Cause) → ((i : ℕ) → i < length G → IsLegalLine h (take i G) (line_at G i)) →
+    IsFirstCause h G x cause → IsFirstIllegal h (G ++ x ∷ rest) (length G) cause
 at_seam h G rest x cause legal first =
     let H : History = G ++ x ∷ rest in
     let there : slice_get H (length G) ≡ Some x =
@@ -36,13 +37,15 @@ seam : (G left rest lines : History) (x : Line) → lines ≡ G ++ left → left
 seam G left rest lines x is next = is ∙ ap (λ (K : History). G ++ K) next
 
 -- a later line has a cause
-pub found : (h : Inn) (book : Diary) (lines left rest : History) (x : Line) (cause : Cause) (place : ℕ) → book.house ≡ h → IsLegal book.house book.history → lines ≡ book.history ++ left → left ≡ x ∷ rest → place ≡ length book.history →
+pub found : (h : Inn) (book : Diary) (lines left rest : History) (x : Line) (cause : Cause) (place : ℕ) → book.house ≡ h → IsLegal book.house book.history →
+    lines ≡ book.history ++ left → left ≡ x ∷ rest → place ≡ length book.history →
     IsFirstCause book.house book.history x cause → IsFirstIllegal h lines place cause
 found h book lines left rest x cause place house legal is next at first =
     let H : Inn → Type 0 = λ i. IsFirstIllegal i (book.history ++ x ∷ rest) (length book.history) cause in
     let Q : History → Type 0 = λ K. IsFirstIllegal h K (length book.history) cause in
     let R : ℕ → Type 0 = λ n. IsFirstIllegal h lines n cause in
-    subst R (sym at) (subst Q (sym (seam book.history left rest lines x is next)) (subst H house (at_seam book.house book.history rest x cause legal.lines first)))
+    subst R (sym at) (subst Q (sym (seam book.history left rest lines x is next))
+    (subst H house (at_seam book.house book.history rest x cause legal.lines first)))
 
 -- a line among lines without a Group is none
 pub none_here : (G left rest lines : History) (x : Line) → lines ≡ G ++ left → left ≡ x ∷ rest → HasNoGroup lines → is_group x.entry.act ≡ false
@@ -51,7 +54,8 @@ none_here G left rest lines x is next none =
     ap (λ (y : Line). is_group y.entry.act) (sym (get_or-append_seam G x rest x)) ∙ here
 
 -- one line more was read
-pub one_more : (old new : Replay) (h : Inn) (lines left rest : History) (x : Line) → old.book.house ≡ h → lines ≡ old.book.history ++ left → left ≡ x ∷ rest → HasRead old new x None →
+pub one_more : (old new : Replay) (h : Inn) (lines left rest : History) (x : Line) → old.book.house ≡ h → lines ≡ old.book.history ++ left → left ≡ x ∷ rest →
+    HasRead old new x None →
     IsReplay new × (new.book.house ≡ h) × (lines ≡ new.book.history ++ rest)
 one_more old new h lines left rest x house is next read = (
   read.0,

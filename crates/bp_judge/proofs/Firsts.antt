@@ -16,8 +16,10 @@ use Rattle.bp_judge.specs.declared.judgement.Cause.TheVariants.{Opening, Caller,
 use Rattle.bp_judge.specs.Judging.{Keeps, rank, IsFirstCause}
 
 -- what holds below a rank, rule by rule
-pub all_before : (h : Inn) (H : History) (x : Line) (n : ℕ) → (0 < n → IsTrue (opens H x)) → (1 < n → IsTrue (may_log H x.entry.caller x.entry.act)) → (2 < n → IsTrue (is_in_range h x.entry.act)) →
-    (3 < n → IsTrue (is_allowed h H x.entry.act)) → (4 < n → IsTrue (is_fresh h H x.entry.act)) → (5 < n → IsTrue (is_newer H x.entry.act)) → (6 < n → IsCertified h H x.entry.act x.certificate) →
+pub all_before : (h : Inn) (H : History) (x : Line) (n : ℕ) → (0 < n → IsTrue (opens H x)) → (1 < n → IsTrue (may_log H x.entry.caller x.entry.act)) →
+    (2 < n → IsTrue (is_in_range h x.entry.act)) →
+    (3 < n → IsTrue (is_allowed h H x.entry.act)) → (4 < n → IsTrue (is_fresh h H x.entry.act)) → (5 < n → IsTrue (is_newer H x.entry.act)) →
+    (6 < n → IsCertified h H x.entry.act x.certificate) →
     n ≤ 7 → (other : Cause) → rank other < n → Keeps h H x other
 all_before h H x n a b c d e f g most Opening l = a l
 all_before h H x n a b c d e f g most Caller l = b l
@@ -54,42 +56,53 @@ first_opening h H x wrong = record {
 pub first_caller : (h : Inn) (H : History) (x : Line) → 1 ≤ length H → may_log H x.entry.caller x.entry.act ≡ false → IsFirstCause h H x Caller
 first_caller h H x some wrong = record {
   breaks = λ k. both_ways _ wrong k;
-  before = all_before h H x 1 (λ l. opens_later H x some) (λ l. absurd (omega arith)) (λ l. absurd (omega arith)) (λ l. absurd (omega arith)) (λ l. absurd (omega arith)) (λ l. absurd (omega arith)) (λ l. absurd (omega arith)) (omega arith);
+  before = all_before h H x 1 (λ l. opens_later H x some) (λ l. absurd (omega arith)) (λ l. absurd (omega arith)) (λ l. absurd (omega arith))
+      (λ l. absurd (omega arith)) (λ l. absurd (omega arith)) (λ l. absurd (omega arith)) (omega arith);
 }
 
-pub first_range : (h : Inn) (H : History) (x : Line) → 1 ≤ length H → IsTrue (may_log H x.entry.caller x.entry.act) → is_in_range h x.entry.act ≡ false → IsFirstCause h H x Range
+pub first_range : (h : Inn) (H : History) (x : Line) → 1 ≤ length H → IsTrue (may_log H x.entry.caller x.entry.act) → is_in_range h x.entry.act ≡ false →
+    IsFirstCause h H x Range
 first_range h H x some caller wrong = record {
   breaks = λ k. both_ways _ wrong k;
-  before = all_before h H x 2 (λ l. opens_later H x some) (λ l. caller) (λ l. absurd (omega arith)) (λ l. absurd (omega arith)) (λ l. absurd (omega arith)) (λ l. absurd (omega arith)) (λ l. absurd (omega arith)) (omega arith);
+  before = all_before h H x 2 (λ l. opens_later H x some) (λ l. caller) (λ l. absurd (omega arith)) (λ l. absurd (omega arith)) (λ l. absurd (omega arith))
+      (λ l. absurd (omega arith)) (λ l. absurd (omega arith)) (omega arith);
 }
 
-pub first_limit : (h : Inn) (H : History) (x : Line) → 1 ≤ length H → IsTrue (may_log H x.entry.caller x.entry.act) → IsTrue (is_in_range h x.entry.act) → is_allowed h H x.entry.act ≡ false → IsFirstCause h H x Limit
+pub first_limit : (h : Inn) (H : History) (x : Line) → 1 ≤ length H → IsTrue (may_log H x.entry.caller x.entry.act) → IsTrue (is_in_range h x.entry.act) →
+    is_allowed h H x.entry.act ≡ false → IsFirstCause h H x Limit
 first_limit h H x some caller range wrong = record {
   breaks = λ k. both_ways _ wrong k;
-  before = all_before h H x 3 (λ l. opens_later H x some) (λ l. caller) (λ l. range) (λ l. absurd (omega arith)) (λ l. absurd (omega arith)) (λ l. absurd (omega arith)) (λ l. absurd (omega arith)) (omega arith);
+  before = all_before h H x 3 (λ l. opens_later H x some) (λ l. caller) (λ l. range) (λ l. absurd (omega arith)) (λ l. absurd (omega arith))
+      (λ l. absurd (omega arith)) (λ l. absurd (omega arith)) (omega arith);
 }
 
-pub first_behind : (h : Inn) (H : History) (x : Line) → 1 ≤ length H → IsTrue (may_log H x.entry.caller x.entry.act) → IsTrue (is_in_range h x.entry.act) → IsTrue (is_allowed h H x.entry.act) → is_fresh h H x.entry.act ≡ false → IsFirstCause h H x Behind
+pub first_behind : (h : Inn) (H : History) (x : Line) → 1 ≤ length H → IsTrue (may_log H x.entry.caller x.entry.act) → IsTrue (is_in_range h x.entry.act) →
+    IsTrue (is_allowed h H x.entry.act) → is_fresh h H x.entry.act ≡ false → IsFirstCause h H x Behind
 first_behind h H x some caller range limit wrong = record {
   breaks = λ k. both_ways _ wrong k;
-  before = all_before h H x 4 (λ l. opens_later H x some) (λ l. caller) (λ l. range) (λ l. limit) (λ l. absurd (omega arith)) (λ l. absurd (omega arith)) (λ l. absurd (omega arith)) (omega arith);
+  before = all_before h H x 4 (λ l. opens_later H x some) (λ l. caller) (λ l. range) (λ l. limit) (λ l. absurd (omega arith)) (λ l. absurd (omega arith))
+      (λ l. absurd (omega arith)) (omega arith);
 }
 
-pub first_position : (h : Inn) (H : History) (x : Line) → 1 ≤ length H → IsTrue (may_log H x.entry.caller x.entry.act) → IsTrue (is_in_range h x.entry.act) → IsTrue (is_allowed h H x.entry.act) → IsTrue (is_fresh h H x.entry.act) →
+pub first_position : (h : Inn) (H : History) (x : Line) → 1 ≤ length H → IsTrue (may_log H x.entry.caller x.entry.act) → IsTrue (is_in_range h x.entry.act) →
+    IsTrue (is_allowed h H x.entry.act) → IsTrue (is_fresh h H x.entry.act) →
     is_newer H x.entry.act ≡ false → IsFirstCause h H x Position
 first_position h H x some caller range limit fresh wrong = record {
   breaks = λ k. both_ways _ wrong k;
-  before = all_before h H x 5 (λ l. opens_later H x some) (λ l. caller) (λ l. range) (λ l. limit) (λ l. fresh) (λ l. absurd (omega arith)) (λ l. absurd (omega arith)) (omega arith);
+  before = all_before h H x 5 (λ l. opens_later H x some) (λ l. caller) (λ l. range) (λ l. limit) (λ l. fresh) (λ l. absurd (omega arith))
+      (λ l. absurd (omega arith)) (omega arith);
 }
 
-pub first_certificate : (h : Inn) (H : History) (x : Line) → IsTrue (opens H x) → IsTrue (may_log H x.entry.caller x.entry.act) → IsTrue (is_in_range h x.entry.act) → IsTrue (is_allowed h H x.entry.act) → IsTrue (is_fresh h H x.entry.act) →
+pub first_certificate : (h : Inn) (H : History) (x : Line) → IsTrue (opens H x) → IsTrue (may_log H x.entry.caller x.entry.act) →
+    IsTrue (is_in_range h x.entry.act) → IsTrue (is_allowed h H x.entry.act) → IsTrue (is_fresh h H x.entry.act) →
     IsTrue (is_newer H x.entry.act) → (IsCertified h H x.entry.act x.certificate → ⊥) → IsFirstCause h H x Certificate
 first_certificate h H x opening caller range limit fresh newer wrong = record {
   breaks = wrong;
   before = all_before h H x 6 (λ l. opening) (λ l. caller) (λ l. range) (λ l. limit) (λ l. fresh) (λ l. newer) (λ l. absurd (omega arith)) (omega arith);
 }
 
-pub first_reply : (h : Inn) (H : History) (x : Line) → IsTrue (opens H x) → IsTrue (may_log H x.entry.caller x.entry.act) → IsTrue (is_in_range h x.entry.act) → IsTrue (is_allowed h H x.entry.act) → IsTrue (is_fresh h H x.entry.act) →
+pub first_reply : (h : Inn) (H : History) (x : Line) → IsTrue (opens H x) → IsTrue (may_log H x.entry.caller x.entry.act) →
+    IsTrue (is_in_range h x.entry.act) → IsTrue (is_allowed h H x.entry.act) → IsTrue (is_fresh h H x.entry.act) →
     IsTrue (is_newer H x.entry.act) → IsCertified h H x.entry.act x.certificate → (Keeps h H x OtherReply → ⊥) → IsFirstCause h H x OtherReply
 first_reply h H x opening caller range limit fresh newer certified wrong = record {
   breaks = wrong;
@@ -103,9 +116,11 @@ none_certified h H Leave c none is = is
 none_certified h H (Publish position) c none is = absurd (let e = none.1 in cc)
 
 -- the plain line with another reply is legal: this one's certificate is too much
-pub first_with : (h : Inn) (H : History) (x : Line) (reply : Reply) → IsLegalLine h H (plain_line x.entry.caller x.entry.act reply) → x.certificate ≢ None → IsFirstCause h H x Certificate
+pub first_with : (h : Inn) (H : History) (x : Line) (reply : Reply) → IsLegalLine h H (plain_line x.entry.caller x.entry.act reply) → x.certificate ≢ None →
+    IsFirstCause h H x Certificate
 first_with h H x reply legal some =
-    first_certificate h H x legal.opening legal.caller legal.range legal.limit legal.behind legal.position (λ is. some (none_certified h H x.entry.act x.certificate legal.certificate is))
+    first_certificate h H x legal.opening legal.caller legal.range legal.limit legal.behind legal.position
+    (λ is. some (none_certified h H x.entry.act x.certificate legal.certificate is))
 
 -- the rules before those of the certificate
 pub record Rules (h : Inn) (H : History) (x : Line) : Type 0 where
@@ -119,5 +134,6 @@ pub record Rules (h : Inn) (H : History) (x : Line) : Type 0 where
 pub certificate_after : (h : Inn) (H : History) (x : Line) → Rules h H x → (IsCertified h H x.entry.act x.certificate → ⊥) → IsFirstCause h H x Certificate
 certificate_after h H x r wrong = first_certificate h H x r.opening r.caller r.range r.limit r.behind r.position wrong
 
-pub reply_after : (h : Inn) (H : History) (x : Line) → Rules h H x → IsCertified h H x.entry.act x.certificate → (Keeps h H x OtherReply → ⊥) → IsFirstCause h H x OtherReply
+pub reply_after : (h : Inn) (H : History) (x : Line) → Rules h H x → IsCertified h H x.entry.act x.certificate → (Keeps h H x OtherReply → ⊥) →
+    IsFirstCause h H x OtherReply
 reply_after h H x r certified wrong = first_reply h H x r.opening r.caller r.range r.limit r.behind r.position certified wrong

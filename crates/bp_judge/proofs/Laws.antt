@@ -12,7 +12,8 @@ use Rattle.bp_judge.specs.Judging.{rank, IsFirstCause, IsCauseAt, IsFirstIllegal
 use Rattle.bp_judge.proofs.Firsts.{keeps_all}
 
 abbrev rank_back : ℕ → Cause
-rank_back n = cond (n == 0) Opening (cond (n == 1) Caller (cond (n == 2) Range (cond (n == 3) Limit (cond (n == 4) Behind (cond (n == 5) Position (cond (n == 6) Certificate Reply))))))
+rank_back n = cond (n == 0) Opening
+    (cond (n == 1) Caller (cond (n == 2) Range (cond (n == 3) Limit (cond (n == 4) Behind (cond (n == 5) Position (cond (n == 6) Certificate Reply))))))
 
 back : (c : Cause) → rank_back (rank c) ≡ c
 back Opening = refl

@@ -20,7 +20,8 @@ deltas_further : (h : Inn) (H : History) (a b d : ℕ) → a ≤ b → deltas_be
 deltas_further h H a b zero before =
     let same : b + zero ≡ b = omega arith in
     let none : b + zero - b ≡ 0 = omega arith in
-    ap (deltas_between h H a) same ∙ sym (append-nil (deltas_between h H a b)) ∙ sym (ap (λ k. deltas_between h H a b ++ flat_map (deltas_at h H) (range_with_len b k)) none)
+    ap (deltas_between h H a) same ∙ sym (append-nil (deltas_between h H a b)) ∙
+    sym (ap (λ k. deltas_between h H a b ++ flat_map (deltas_at h H) (range_with_len b k)) none)
 deltas_further h H a b (suc d) before =
     let n : ℕ = b + d in
     let next : b + suc d ≡ n + 1 = omega arith in
@@ -54,11 +55,13 @@ way_on h H a b c before within first second =
     ∙ second
 
 -- what a step of a course changes and moves
-pub way_step : (h : Inn) (H : History) (a b : ℕ) (changes : List Change) (p q : Program) → p ≡ instance_at h H a → changes ≡ deltas_between h H a b → Leads p changes q → q ≡ instance_at h H b → IsWay h H a b
+pub way_step : (h : Inn) (H : History) (a b : ℕ) (changes : List Change) (p q : Program) → p ≡ instance_at h H a → changes ≡ deltas_between h H a b →
+    Leads p changes q → q ≡ instance_at h H b → IsWay h H a b
 way_step h H a b changes p q start are leads end =
     ap (λ (x : Program). changed_by_all x (deltas_between h H a b)) (sym start) ∙ ap (changed_by_all p) (sym are) ∙ leads.gives ∙ end
 
-pub moved_step : (h : Inn) (H : History) (a b moved : ℕ) (changes : List Change) (p : Program) → a < b → p ≡ instance_at h H a → changes ≡ deltas_between h H a b → moved ≡ units_moved_by_all p changes → moved + 1 ≤ moved_between h H a b
+pub moved_step : (h : Inn) (H : History) (a b moved : ℕ) (changes : List Change) (p : Program) → a < b → p ≡ instance_at h H a →
+    changes ≡ deltas_between h H a b → moved ≡ units_moved_by_all p changes → moved + 1 ≤ moved_between h H a b
 moved_step h H a b moved changes p further start are is =
     let same = is ∙ ap (units_moved_by_all p) are ∙ ap (λ (x : Program). units_moved_by_all x (deltas_between h H a b)) start in
     omega (arith, further, same)

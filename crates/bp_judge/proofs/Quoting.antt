@@ -1,5 +1,30 @@
 -- Where the last displacement was found.
-use Rattle.std.proofs.Common.{◌≡◌, ℕ, zero, suc, ◌≤◌, ◌∙◌, refl, ap, arith, Bool, true, false, ◌==◌, if◌then◌else◌, [], ◌∷◌, ◌++◌, length, take, Option, Some, None, is_some, length-append}
+use Rattle.std.proofs.Common.{
+  ◌≡◌,
+  ℕ,
+  zero,
+  suc,
+  ◌≤◌,
+  ◌∙◌,
+  refl,
+  ap,
+  arith,
+  Bool,
+  true,
+  false,
+  ◌==◌,
+  if◌then◌else◌,
+  [],
+  ◌∷◌,
+  ◌++◌,
+  length,
+  take,
+  Option,
+  Some,
+  None,
+  is_some,
+  length-append,
+}
 use Rattle.std.specs.Option.{is_none}
 use Rattle.std.proofs.lemmas.List.{take-append-le}
 use Rattle.std.proofs.Math.ListN.{get_or-append}
@@ -37,7 +62,8 @@ quoted_more h H x =
     let n = length H in
     let size : length (H ++ x ∷ []) ≡ suc n = let e = length-append H (x ∷ []) in omega (arith, e) in
     let wants : wants_quote h (take n (H ++ x ∷ [])) (line_at (H ++ x ∷ []) n).entry.act ≡ wants_quote h H x.entry.act =
-    ap (λ (K : History). wants_quote h K (line_at (H ++ x ∷ []) n).entry.act) (take-append_seam H (x ∷ [])) ∙ ap (λ (y : Line). wants_quote h H y.entry.act) (get_or-append_seam H x [] no_line) in
+    ap (λ (K : History). wants_quote h K (line_at (H ++ x ∷ []) n).entry.act) (take-append_seam H (x ∷ [])) ∙
+    ap (λ (y : Line). wants_quote h H y.entry.act) (get_or-append_seam H x [] no_line) in
     ap (quoted_below h (H ++ x ∷ [])) size
     ∙ ap (λ (b : Bool). if b then Some n else quoted_below h (H ++ x ∷ []) n) wants
     ∙ ap (λ (o : Option ℕ). if wants_quote h H x.entry.act then Some n else o) (quoted_before h H x n (omega arith))
@@ -66,9 +92,11 @@ short_of false None e = absurd (cc)
 short_of false (Some n) e = refl
 
 -- a Group without a quote that is logged finds too few rooms
-pub group_skips : (h : Inn) (H : History) (span : Span) (rooms amount : ℕ) → refusal h H (Do (Group span rooms amount) None) ≡ None → wants_quote h H (DoAct (Group span rooms amount)) ≡ false
+pub group_skips : (h : Inn) (H : History) (span : Span) (rooms amount : ℕ) → refusal h H (Do (Group span rooms amount) None) ≡ None →
+    wants_quote h H (DoAct (Group span rooms amount)) ≡ false
 group_skips h H span rooms amount e = short_of (commands H == h.limits.entries) (first_short (rooms_left_at h H) span rooms) e
 
 -- and one that needs a quote wants it
-pub group_wants : (b : Diary) (span : Span) (rooms amount : ℕ) → NeedsQuote b (Group span rooms amount) → wants_quote b.house b.history (DoAct (Group span rooms amount)) ≡ true
+pub group_wants : (b : Diary) (span : Span) (rooms amount : ℕ) → NeedsQuote b (Group span rooms amount) →
+    wants_quote b.house b.history (DoAct (Group span rooms amount)) ≡ true
 group_wants b span rooms amount needs = ap is_none needs

@@ -1,9 +1,53 @@
 -- A line that publishes a vector.
-use Rattle.std.proofs.Common.{◌≡◌, ◌≢◌, ℕ, ◌≤◌, ◌<◌, ◌∙◌, refl, sym, subst, ap, arith, true, false, ◌==◌, ◌&&◌, [], ◌∷◌, ◌++◌, length, Option, Some, None, MatchOption, IsTrue, nat_lt, nat_le, vec_capacity}
+use Rattle.std.proofs.Common.{
+  ◌≡◌,
+  ◌≢◌,
+  ℕ,
+  ◌≤◌,
+  ◌<◌,
+  ◌∙◌,
+  refl,
+  sym,
+  subst,
+  ap,
+  arith,
+  true,
+  false,
+  ◌==◌,
+  ◌&&◌,
+  [],
+  ◌∷◌,
+  ◌++◌,
+  length,
+  Option,
+  Some,
+  None,
+  MatchOption,
+  IsTrue,
+  nat_lt,
+  nat_le,
+  vec_capacity,
+}
 use Rattle.std.specs.Arc.{arc_value}
 use Rattle.std.specs.declared.sync.Arc.{Arc}
 use Rattle.std.specs.declared.alloc.Global.{Global}
-use Rattle.std.proofs.lemmas.Bool.{and_parts, and_from, and_left, and_right, or_left, or_right, or_from, eqb-true, ne_eqb, lt-ltb, le-ltb, le-leb, lt-leb, leb-true, cond-false}
+use Rattle.std.proofs.lemmas.Bool.{
+  and_parts,
+  and_from,
+  and_left,
+  and_right,
+  or_left,
+  or_right,
+  or_from,
+  eqb-true,
+  ne_eqb,
+  lt-ltb,
+  le-ltb,
+  le-leb,
+  lt-leb,
+  leb-true,
+  cond-false,
+}
 use Rattle.bp_types.specs.Claim.{Claim, IsCertificateOf}
 use Rattle.bp_types.specs.Program.{Program}
 use Rattle.bp_types.specs.House.{Inn, IsHouse, opening}
@@ -40,21 +84,24 @@ use Rattle.bp_judge.specs.Searches.{last_quoted}
 use Rattle.bp_judge.proofs.Firsts.{Rules, first_position, opens_later}
 
 -- no certificate that certifies the instance at the position goes with the line
-pub not_certified : (h : Inn) (H : History) (x : Line) (position : ℕ) (p : Program) → x.entry.act ≡ Publish position → p ≡ instance_at h H position → ((c : Claim) → x.certificate ≡ Some c → IsCertificateOf p c → ⊥) → IsCertified h H x.entry.act x.certificate → ⊥
+pub not_certified : (h : Inn) (H : History) (x : Line) (position : ℕ) (p : Program) → x.entry.act ≡ Publish position → p ≡ instance_at h H position →
+    ((c : Claim) → x.certificate ≡ Some c → IsCertificateOf p c → ⊥) → IsCertified h H x.entry.act x.certificate → ⊥
 not_certified h H x position p act at none is =
     let P : Act → Type 0 = λ a. IsCertified h H a x.certificate in
     let there = subst P act is in
     let Q : Program → Type 0 = λ q. IsCertificateOf q there.0 in
     none there.0 there.1 (subst Q (sym at) there.2)
 
-pub is_certified : (h : Inn) (H : History) (x : Line) (position : ℕ) (p : Program) (c : Claim) → x.entry.act ≡ Publish position → p ≡ instance_at h H position → x.certificate ≡ Some c → IsCertificateOf p c → IsCertified h H x.entry.act x.certificate
+pub is_certified : (h : Inn) (H : History) (x : Line) (position : ℕ) (p : Program) (c : Claim) → x.entry.act ≡ Publish position →
+    p ≡ instance_at h H position → x.certificate ≡ Some c → IsCertificateOf p c → IsCertified h H x.entry.act x.certificate
 is_certified h H x position p c act at some certifies =
     let P : Act → Type 0 = λ a. IsCertified h H a x.certificate in
     let Q : Program → Type 0 = λ q. IsCertificateOf q c in
     subst P (sym act) (c, some, subst Q at certifies)
 
 -- the reply is not the number of the vector
-pub not_number : (h : Inn) (H : History) (x : Line) (position number : ℕ) → x.entry.act ≡ Publish position → number ≡ vectors H → x.entry.reply ≢ Vector number → Keeps h H x OtherReply → ⊥
+pub not_number : (h : Inn) (H : History) (x : Line) (position number : ℕ) → x.entry.act ≡ Publish position → number ≡ vectors H →
+    x.entry.reply ≢ Vector number → Keeps h H x OtherReply → ⊥
 not_number h H x position number act is other keeps =
     let P : Act → Type 0 = λ a. IsReply h H x.entry.caller a x.entry.reply in
     other (subst P act keeps ∙ ap Vector (sym is))
@@ -78,7 +125,9 @@ opening_rules h x house is =
       opening = is;
       caller = let P : Act → Type 0 = λ a. IsTrue (may_log [] x.entry.caller a) in subst P (sym o.1) (or_left (x.entry.caller == 0) _ parts.0);
       range = let P : Act → Type 0 = λ a. IsTrue (is_in_range h a) in subst P (sym o.1) refl;
-      limit = let P : Act → Type 0 = λ a. IsTrue (is_allowed h [] a) in subst P (sym o.1) (let some : 1 ≤ h.limits.publications = leb-true _ _ (and_parts _ _ house.publications).0 in lt-ltb 0 h.limits.publications (omega arith));
+      limit = let P : Act → Type 0 = λ a. IsTrue (is_allowed h [] a) in
+          subst P (sym o.1) (let some : 1 ≤ h.limits.publications = leb-true _ _ (and_parts _ _ house.publications).0 in
+          lt-ltb 0 h.limits.publications (omega arith));
       behind = let P : Act → Type 0 = λ a. IsTrue (is_fresh h [] a) in subst P (sym o.1) refl;
       position = let P : Act → Type 0 = λ a. IsTrue (is_newer [] a) in subst P (sym o.1) refl;
     }
@@ -87,7 +136,8 @@ pub start : InstanceAtStart → (h : Inn) (p : Program) → p ≡ opening h → 
 start at_start h p is = is ∙ sym (at_start h [])
 
 -- the opening line is this one
-pub same_opening : (x : Line) (b : Posted) → opens [] x ≡ true → b.position ≡ 0 → x.certificate ≡ Some b.certificate → x.entry.reply ≡ Vector 0 → opening_line b ≡ x
+pub same_opening : (x : Line) (b : Posted) → opens [] x ≡ true → b.position ≡ 0 → x.certificate ≡ Some b.certificate → x.entry.reply ≡ Vector 0 →
+    opening_line b ≡ x
 same_opening x b is at some reply =
     let o = opener x is in
     let build : ℕ → Act → Reply → Option Claim → Line = λ c a r k. record { entry = record { caller = c; act = a; reply = r }; certificate = k } in
@@ -98,7 +148,8 @@ same_opening x b is at some reply =
     ∙ ap (λ k. build x.entry.caller x.entry.act x.entry.reply k) (sym some)
 
 -- a replay begins
-pub opened_replay : InstanceAtStart → (h : Inn) (book : Diary) (x : Line) (course : Course) (p : Program) → book ≡ record { house = h; history = x ∷ [] } → IsLegal book.house book.history → opens [] x ≡ true → p ≡ opening h → course.instance ≡ p → course.position ≡ 0 →
+pub opened_replay : InstanceAtStart → (h : Inn) (book : Diary) (x : Line) (course : Course) (p : Program) → book ≡ record { house = h; history = x ∷ [] } →
+    IsLegal book.house book.history → opens [] x ≡ true → p ≡ opening h → course.instance ≡ p → course.position ≡ 0 →
     2 ≤ vec_capacity course.changes → IsReplay (record { book = book; trail = record { course = course; solved = None } })
 opened_replay at_start h book x course p is legal opened at instance position room =
     let t : Trail = record { course = course; solved = None } in
@@ -119,42 +170,58 @@ opened_replay at_start h book x course p is legal opened at instance position ro
 -- a later line
 
 -- the rules of a later vector before its certificate
-pub vector_rules : (h : Inn) (H : History) (x : Line) (position : ℕ) → IsLegal h H → x.entry.act ≡ Publish position → IsTrue (may_log H x.entry.caller x.entry.act) → (vectors H ≡ h.limits.publications → ⊥) → position ≤ length H → (changes_between H (last_position H) position ≡ 0 → ⊥) → Rules h H x
+pub vector_rules : (h : Inn) (H : History) (x : Line) (position : ℕ) → IsLegal h H → x.entry.act ≡ Publish position →
+    IsTrue (may_log H x.entry.caller x.entry.act) → (vectors H ≡ h.limits.publications → ⊥) → position ≤ length H →
+    (changes_between H (last_position H) position ≡ 0 → ⊥) → Rules h H x
 vector_rules h H x position legal act caller room within some = record {
   opening = opens_later H x legal.some_line;
   caller = caller;
   range = let P : Act → Type 0 = λ a. IsTrue (is_in_range h a) in subst P (sym act) refl;
-  limit = let P : Act → Type 0 = λ a. IsTrue (is_allowed h H a) in subst P (sym act) (let fit = vectors_fit h H legal in lt-ltb (vectors H) h.limits.publications (omega arith));
+  limit = let P : Act → Type 0 = λ a. IsTrue (is_allowed h H a) in
+      subst P (sym act) (let fit = vectors_fit h H legal in lt-ltb (vectors H) h.limits.publications (omega arith));
   behind = let P : Act → Type 0 = λ a. IsTrue (is_fresh h H a) in subst P (sym act) refl;
-  position = let P : Act → Type 0 = λ a. IsTrue (is_newer H a) in subst P (sym act) (or_right (length H == 0) _ (and_from _ _ (le-leb position (length H) within) (le-leb 1 (changes_between H (last_position H) position) (omega arith))));
+  position = let P : Act → Type 0 = λ a. IsTrue (is_newer H a) in
+      subst P (sym act) (or_right (length H == 0) _
+      (and_from _ _ (le-leb position (length H) within) (le-leb 1 (changes_between H (last_position H) position) (omega arith))));
 }
 
-not_newer : (h : Inn) (H : History) (x : Line) (position : ℕ) → IsLegal h H → x.entry.act ≡ Publish position → IsTrue (may_log H x.entry.caller x.entry.act) → (vectors H ≡ h.limits.publications → ⊥) → (nat_le position (length H) && nat_le 1 (changes_between H (last_position H) position)) ≡ false → IsFirstCause h H x Position
+not_newer : (h : Inn) (H : History) (x : Line) (position : ℕ) → IsLegal h H → x.entry.act ≡ Publish position → IsTrue (may_log H x.entry.caller x.entry.act) →
+    (vectors H ≡ h.limits.publications → ⊥) → (nat_le position (length H) && nat_le 1 (changes_between H (last_position H) position)) ≡ false →
+    IsFirstCause h H x Position
 not_newer h H x position legal act caller room wrong =
     let some = legal.some_line in
     first_position h H x some caller (let P : Act → Type 0 = λ a. IsTrue (is_in_range h a) in subst P (sym act) refl)
-    (let P : Act → Type 0 = λ a. IsTrue (is_allowed h H a) in subst P (sym act) (let fit = vectors_fit h H legal in lt-ltb (vectors H) h.limits.publications (omega arith)))
+    (let P : Act → Type 0 = λ a. IsTrue (is_allowed h H a) in
+    subst P (sym act) (let fit = vectors_fit h H legal in lt-ltb (vectors H) h.limits.publications (omega arith)))
     (let P : Act → Type 0 = λ a. IsTrue (is_fresh h H a) in subst P (sym act) refl)
     (let P : Act → Type 0 = λ a. is_newer H a ≡ false in subst P (sym act) (or_from (length H == 0) _ (ne_eqb (length H) 0 (λ e. omega arith)) wrong))
 
-pub late_vector : (h : Inn) (H : History) (x : Line) (position : ℕ) → IsLegal h H → x.entry.act ≡ Publish position → IsTrue (may_log H x.entry.caller x.entry.act) → (vectors H ≡ h.limits.publications → ⊥) → length H < position → IsFirstCause h H x Position
+pub late_vector : (h : Inn) (H : History) (x : Line) (position : ℕ) → IsLegal h H → x.entry.act ≡ Publish position →
+    IsTrue (may_log H x.entry.caller x.entry.act) → (vectors H ≡ h.limits.publications → ⊥) → length H < position → IsFirstCause h H x Position
 late_vector h H x position legal act caller room late = not_newer h H x position legal act caller room (and_left _ _ (lt-leb position (length H) late))
 
-pub old_vector : (h : Inn) (H : History) (x : Line) (position : ℕ) → IsLegal h H → x.entry.act ≡ Publish position → IsTrue (may_log H x.entry.caller x.entry.act) → (vectors H ≡ h.limits.publications → ⊥) → changes_between H (last_position H) position ≡ 0 → IsFirstCause h H x Position
-old_vector h H x position legal act caller room none = not_newer h H x position legal act caller room (and_right _ _ (lt-leb 1 (changes_between H (last_position H) position) (omega (arith, none))))
+pub old_vector : (h : Inn) (H : History) (x : Line) (position : ℕ) → IsLegal h H → x.entry.act ≡ Publish position →
+    IsTrue (may_log H x.entry.caller x.entry.act) → (vectors H ≡ h.limits.publications → ⊥) → changes_between H (last_position H) position ≡ 0 →
+    IsFirstCause h H x Position
+old_vector h H x position legal act caller room none =
+    not_newer h H x position legal act caller room (and_right _ _ (lt-leb 1 (changes_between H (last_position H) position) (omega (arith, none))))
 
 -- a vector with changes before it, where one more may be published, is logged
-pub vector_logged : (old new : Diary) (caller : ℕ) (board : Arc Board Global) (answer : Answer) → IsAnswered old new caller (PublishCall board 1) answer → (changes_between old.history (last_position old.history) (arc_value board).position ≡ 0 → ⊥) →
+pub vector_logged : (old new : Diary) (caller : ℕ) (board : Arc Board Global) (answer : Answer) → IsAnswered old new caller (PublishCall board 1) answer →
+    (changes_between old.history (last_position old.history) (arc_value board).position ≡ 0 → ⊥) →
     (vectors old.history ≡ old.house.limits.publications → ⊥) → IsLogged old new caller (PublishCall board 1) answer
 vector_logged old new caller board answer is some room =
     let P : Option Answer → Type 0 = λ o. MatchOption o (IsLogged old new caller (PublishCall board 1) answer) (IsRefused old new answer) in
     let n = changes_between old.history (last_position old.history) (arc_value board).position in
     let first : refusal old.house old.history (PublishCall board 1) ≡ refuse_if (vectors old.history == old.house.limits.publications) PublicationsFull =
-    cond-false (nat_lt n 1) (Some (Superseded (last_position old.history) n)) (refuse_if (vectors old.history == old.house.limits.publications) PublicationsFull) (le-ltb n 1 (omega arith)) in
-    let none : refuse_if (vectors old.history == old.house.limits.publications) PublicationsFull ≡ None = cond-false (vectors old.history == old.house.limits.publications) (Some PublicationsFull) None (ne_eqb _ _ room) in
+    cond-false (nat_lt n 1) (Some (Superseded (last_position old.history) n))
+    (refuse_if (vectors old.history == old.house.limits.publications) PublicationsFull) (le-ltb n 1 (omega arith)) in
+    let none : refuse_if (vectors old.history == old.house.limits.publications) PublicationsFull ≡ None =
+    cond-false (vectors old.history == old.house.limits.publications) (Some PublicationsFull) None (ne_eqb _ _ room) in
     subst P (first ∙ none) is
 
-same_vector : (H : History) (x : Line) (board : Arc Board Global) (position number : ℕ) (reply : Reply) → x.entry.act ≡ Publish position → (arc_value board).position ≡ position → x.certificate ≡ Some (arc_value board).certificate → number ≡ vectors H →
+same_vector : (H : History) (x : Line) (board : Arc Board Global) (position number : ℕ) (reply : Reply) → x.entry.act ≡ Publish position →
+    (arc_value board).position ≡ position → x.certificate ≡ Some (arc_value board).certificate → number ≡ vectors H →
     x.entry.reply ≡ Vector number → reply ≡ Vector (vectors H) → line_of x.entry.caller (PublishCall board 1) reply ≡ x
 same_vector H x board position number reply act at some is given made =
     let build : Act → Reply → Option Claim → Line = λ a r k. record { entry = record { caller = x.entry.caller; act = a; reply = r }; certificate = k } in
@@ -164,13 +231,18 @@ same_vector H x board position number reply act at some is given made =
     ∙ ap (λ k. build x.entry.act x.entry.reply k) (sym some)
 
 -- the book has the line, and the trail stands at its position
-pub published : (old : Replay) (new : Diary) (course : Course) (x : Line) (board : Arc Board Global) (position number : ℕ) (answer : Answer) → IsReplay old → IsCourse old.book.house old.book.history course → course.position ≡ position →
-    IsLogged old.book new x.entry.caller (PublishCall board 1) answer → IsLegal new.house new.history → x.entry.act ≡ Publish position → (arc_value board).position ≡ position → x.certificate ≡ Some (arc_value board).certificate → number ≡ vectors old.book.history → x.entry.reply ≡ Vector number →
-    IsReplay (record { book = new; trail = record { course = course; solved = old.trail.solved } }) × (new ≡ record { house = old.book.house; history = old.book.history ++ x ∷ [] })
+pub published : (old : Replay) (new : Diary) (course : Course) (x : Line) (board : Arc Board Global) (position number : ℕ) (answer : Answer) → IsReplay old →
+    IsCourse old.book.house old.book.history course → course.position ≡ position →
+    IsLogged old.book new x.entry.caller (PublishCall board 1) answer → IsLegal new.house new.history → x.entry.act ≡ Publish position →
+    (arc_value board).position ≡ position → x.certificate ≡ Some (arc_value board).certificate → number ≡ vectors old.book.history →
+    x.entry.reply ≡ Vector number →
+    IsReplay (record { book = new; trail = record { course = course; solved = old.trail.solved } }) ×
+    (new ≡ record { house = old.book.house; history = old.book.history ++ x ∷ [] })
 published old new course x board position number answer is along stands logged legal act at some counted given =
     let H : History = old.book.history in
     let same = same_vector H x board position number logged.reply act at some counted given logged.replies in
-    let adds : new ≡ record { house = old.book.house; history = H ++ x ∷ [] } = logged.adds ∙ ap (λ (y : Line). record { house = old.book.house; history = H ++ y ∷ [] }) same in
+    let adds : new ≡ record { house = old.book.house; history = H ++ x ∷ [] } = logged.adds ∙
+    ap (λ (y : Line). record { house = old.book.house; history = H ++ y ∷ [] }) same in
     let t : Trail = record { course = course; solved = old.trail.solved } in
     let P : Diary → Type 0 = λ d. GoesWith d.house d.history t in
     let goes = goes_later old.book.house H x t (record { course = along; solved = is.goes.solved }) in (
@@ -178,7 +250,8 @@ published old new course x board position number answer is along stands logged l
         legal = legal;
         goes = subst P (sym adds) goes;
         at = stands ∙ sym (ap (λ (d : Diary). last_position d.history) adds ∙ last_moves H x position (ap published_position act));
-        last = is.last ∙ sym (ap (λ (d : Diary). last_quoted d.house d.history) adds ∙ quoted_stays old.book.house H x (vector_skips old.book.house H x.entry.act position act));
+        last = is.last ∙ sym (ap (λ (d : Diary). last_quoted d.house d.history) adds ∙
+            quoted_stays old.book.house H x (vector_skips old.book.house H x.entry.act position act));
       },
       adds,
     )

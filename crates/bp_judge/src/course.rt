@@ -65,7 +65,8 @@ impl Course {
         ensures is { IsCourse book.now.house book.now.history self.new }
         ensures goes_on { self.old.position < self.new.position }
         ensures within { self.new.position ≤ until }
-        ensures deltas { self.new.changes.items ≡ deltas_between book.now.house book.now.history self.old.position self.new.position }
+        ensures deltas { self.new.changes.items ≡
+            deltas_between book.now.house book.now.history self.old.position self.new.position }
         ensures leads { Leads self.old.instance self.new.changes.items self.new.instance }
         ensures moved { result ≡ units_moved_by_all self.old.instance self.new.changes.items }
     {

@@ -116,7 +116,8 @@ impl Replay {
         requires { IsReplay self.old }
         ensures read { IfOk result (HasRead self.old self.new line) }
         ensures unsearched { is_group line.entry.act ≡ false → steps.new ≡ steps.old }
-        ensures counted { CountsUpTo steps.old steps.new (searches_of self.old.book.house self.old.book.history line.entry.act) }
+        ensures counted { CountsUpTo steps.old steps.new
+            (searches_of self.old.book.house self.old.book.history line.entry.act) }
     {
         let caller = line.entry.caller;
         if !self.book.may_log(caller, line.entry.act) {
@@ -147,7 +148,8 @@ impl Replay {
         requires range { IsTrue (is_in_range self.old.book.house line.now.entry.act) }
         ensures read { IfOk result (HasRead self.old self.new line.now) }
         ensures unsearched { is_group (DoAct command) ≡ false → steps.new ≡ steps.old }
-        ensures counted { CountsUpTo steps.old steps.new (searches_of self.old.book.house self.old.book.history (DoAct command)) }
+        ensures counted { CountsUpTo steps.old steps.new
+            (searches_of self.old.book.house self.old.book.history (DoAct command)) }
     {
         bp_core::law::last_line_is_legal();
         bp_core::law::one_reply();
@@ -172,7 +174,8 @@ impl Replay {
         ensures asked { IfOk result (IsAsked self.old.book self.new.book caller command) }
         ensures replay { IfOk result (GoesOn self.new) }
         ensures unsearched { is_group (DoAct command) ≡ false → steps.new ≡ steps.old }
-        ensures counted { CountsUpTo steps.old steps.new (searches_of self.old.book.house self.old.book.history (DoAct command)) }
+        ensures counted { CountsUpTo steps.old steps.new
+            (searches_of self.old.book.house self.old.book.history (DoAct command)) }
     {
         bp_core::law::answers_say();
         match command {
@@ -201,7 +204,8 @@ impl Replay {
         requires may { MayCall self.old.book caller (Do (Group span rooms amount) None) }
         ensures asked { IfOk result (IsAsked self.old.book self.new.book caller (Group span rooms amount)) }
         ensures replay { IfOk result (GoesOn self.new) }
-        ensures counted { CountsUpTo steps.old steps.new (searches_of self.old.book.house self.old.book.history (DoAct (Group span rooms amount))) }
+        ensures counted { CountsUpTo steps.old steps.new
+            (searches_of self.old.book.house self.old.book.history (DoAct (Group span rooms amount))) }
     {
         bp_core::law::answers_say();
         let command = Command::Group {
@@ -282,7 +286,8 @@ fn opens(line: &Line) -> bool
 
 /// Compares a line with the reply of its moment.
 fn compared(line: &Line, reply: Reply) -> Option<Cause>
-    ensures { MatchOption result ((line.now.certificate ≡ None) × (line.now.entry.reply ≡ reply)) (IsOther line.now reply) }
+    ensures { MatchOption result ((line.now.certificate ≡ None) ×
+        (line.now.entry.reply ≡ reply)) (IsOther line.now reply) }
 {
     if line.certificate.is_some() {
         return Some(Cause::Certificate);

@@ -52,9 +52,13 @@ impl Solved {
         requires within { until ≤ length book.now.history }
         ensures course { IsCourse book.now.house book.now.history self.new.course }
         ensures within { self.new.course.position ≤ until }
-        ensures reached { MatchBool result (IsSolvedAt book.now.house book.now.history self.new × (self.new.course.position ≡ until)) (IsCourse book.now.house book.now.history self.new.course) }
+        ensures reached { MatchBool result (IsSolvedAt book.now.house book.now.history self.new ×
+            (self.new.course.position ≡ until)) (IsCourse book.now.house book.now.history self.new.course) }
         ensures counted { CountsUpTo steps.old steps.new (most_moved book.now.house) }
-        ensures caught_up { MatchBool result (CountsUpTo steps.old steps.new (moved_between book.now.house book.now.history self.old.course.position until)) (most_moved book.now.house ≤ moved_between book.now.house book.now.history self.old.course.position until) }
+        ensures caught_up { MatchBool result
+            (CountsUpTo steps.old steps.new
+            (moved_between book.now.house book.now.history self.old.course.position until))
+            (most_moved book.now.house ≤ moved_between book.now.house book.now.history self.old.course.position until) }
     {
         let mut left = u128::from(book.house().limits().unit * MOST_MOVED);
         while self.course.position < until {
@@ -74,7 +78,8 @@ impl Solved {
         ensures course { self.new.course ≡ self.old.course }
         ensures program { self.new.solver.flow.program ≡ self.old.course.instance }
         ensures settled { IsSettled self.new.solver }
-        ensures counted { CountsUpTo steps.old steps.new (units_moved_by_all self.old.solver.flow.program self.old.course.changes.items + 1) }
+        ensures counted { CountsUpTo steps.old steps.new
+            (units_moved_by_all self.old.solver.flow.program self.old.course.changes.items + 1) }
     {
         catch_up(&mut self.solver, &self.course.changes, steps);
     }

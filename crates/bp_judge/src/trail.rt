@@ -1,4 +1,5 @@
 ghost use Rattle.std.specs.Prelude.{◌≡◌, ◌+◌, ◌≤◌, Some, None, length, IfOk};
+ghost use Rattle.bp_types.specs.declared.limits.TheConstants.{MOST_GROUP_ROOMS};
 ghost use Rattle.bp_types.specs.Spans.{IsSpanWithin, first_short};
 ghost use Rattle.bp_types.specs.declared.command.Command.TheVariants.{Group};
 ghost use Rattle.bp_flow.specs.Solvers.{CountsUpTo};
@@ -35,14 +36,16 @@ impl Trail {
     ) -> Result<Quoted, Memory>
         requires goes { GoesWith book.now.house book.now.history self.old }
         requires span { IsSpanWithin (length book.now.house.rooms) span }
-        requires rooms { rooms ≤ 10000 }
+        requires rooms { rooms ≤ MOST_GROUP_ROOMS }
         requires room { first_short (rooms_left_at book.now.house book.now.history) span rooms ≡ None }
         ensures right { IfOk result (λ q. IsQuoteFor book.now.house book.now.history (Group span rooms amount) q) }
         ensures newest { IfOk result (λ q. q.position ≡ length book.now.history) }
         ensures goes { IfOk result (λ _. GoesWith book.now.house book.now.history self.new) }
         ensures at { IfOk result (λ _. quoted_at self.new ≡ Some (length book.now.history)) }
         ensures course { IfOk result (λ _. self.new.course ≡ self.old.course) }
-        ensures counted { CountsUpTo steps.old steps.new (searches_to_solve book.now.house book.now.history (quoted_at self.old) + searches_to_quote book.now.house rooms) }
+        ensures counted { CountsUpTo steps.old steps.new
+            (searches_to_solve book.now.house book.now.history (quoted_at self.old) +
+            searches_to_quote book.now.house rooms) }
     {
         let solved = self.solved_now(alloc, book, steps)?;
         let units = book.house().limits().unit * rooms;
@@ -75,7 +78,8 @@ impl Trail {
         ensures solved { IfOk result (IsSolvedAt book.now.house book.now.history) }
         ensures newest { IfOk result (λ s. s.course.position ≡ length book.now.history) }
         ensures course { self.new.course ≡ self.old.course }
-        ensures counted { CountsUpTo steps.old steps.new (searches_to_solve book.now.house book.now.history (quoted_at self.old)) }
+        ensures counted { CountsUpTo steps.old steps.new
+            (searches_to_solve book.now.house book.now.history (quoted_at self.old)) }
     {
         let until = book.length();
         let mut course = match self.solved.take() {

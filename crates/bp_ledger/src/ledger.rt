@@ -1,8 +1,37 @@
-ghost use Rattle.std.specs.Prelude.{◌≡◌, ℕ, ◌+◌, ◌<◌, ◌≤◌, ◌^◌, ◌↔◌, true, false, length, slice_index, EachIndex, IfOk, IfErr, IsErr, OnOk, OnErr};
-ghost use Rattle.bp_types.specs.Rooms.{rooms_moved};
+ghost use Rattle.std.specs.Prelude.{
+  ◌≡◌,
+  ℕ,
+  ◌+◌,
+  ◌<◌,
+  ◌≤◌,
+  ◌^◌,
+  ◌↔◌,
+  true,
+  false,
+  length,
+  slice_index,
+  EachIndex,
+  IfOk,
+  IfErr,
+  IsErr,
+  OnOk,
+  OnErr,
+};
 ghost use Rattle.bp_types.specs.Spans.{IsSpanWithin, first_short};
-ghost use Rattle.bp_ledger.specs.Inventory.{Inventory, IsInventory, HasLeft, HasSold, taken, released, resized, rooms_left_on};
+ghost use Rattle.bp_ledger.specs.Inventory.{
+  Inventory,
+  IsInventory,
+  HasLeft,
+  HasSold,
+  taken,
+  released,
+  resized,
+  rooms_left_on,
+};
 
+use crate::tree::{
+    bring_up, build, first_between, lay, least_between, release_between, shape, take_between, way,
+};
 use bp_types::{Memory, Span};
 use std::alloc::Global;
 use std::marker::Model;
@@ -13,24 +42,37 @@ pub struct BelowSold {
     pub sold: u64,
 }
 
+/// Nights of a span that are looked at one by one: up to so many, a walk over the tree would cost more.
+const FEW: u32 = 8;
+
 /// The rooms of each night and how many of them are sold, never more than there are.
 ///
 /// Contracts see these two lists, one number per night, in whole rooms. What its calls name units are whole
 /// rooms too, whatever the unit of the house.
+///
+/// Inside stands a segment tree over the nights, a complete binary tree whose amounts are not pushed down. A node has
+/// the least number of rooms left below it and an amount that is still to be taken from all below it, itself included.
+/// What is sold on a night is the sum of the amounts from its leaf to the root. A call costs time in the levels of the
+/// tree, not in the nights of a span.
 #[derive(Debug, Drop)]
 pub struct Ledger {
     rooms: Vec<u64>,
-    sold: Vec<u64>,
+    leasts: Vec<u64>,
+    amounts: Vec<u64>,
+    levels: u32,
+    width: usize,
 }
 
 impl Model for Ledger {
-    ghost use Rattle.bp_ledger.specs.Inventory.{Inventory, IsInventory};
+    ghost use Rattle.std.specs.Prelude.{length};
+    ghost use Rattle.bp_ledger.specs.Inventory.{Inventory};
+    ghost use Rattle.bp_ledger.specs.Tree.{IsTree, sold_in};
 
     ghost Value = { Inventory };
 
-    ghost view = { λ l. record { rooms = l.rooms.items; sold = l.sold.items } };
+    ghost view = { λ l. record { rooms = l.rooms.items; sold = sold_in l.levels l.amounts.items (length l.rooms.items) } };
 
-    ghost invariant = { λ l. IsInventory (record { rooms = l.rooms.items; sold = l.sold.items }) };
+    ghost invariant = { λ l. IsTree l.levels l.width l.rooms.items l.leasts.items l.amounts.items };
 }
 
 impl Ledger {
@@ -40,16 +82,33 @@ impl Ledger {
         requires within { EachIndex rooms.now (λ n. slice_index sold.now n ≤ slice_index rooms.now n) }
         ensures { IfOk result (λ l. l ≡ record { rooms = rooms.now; sold = sold.now }) }
     {
+        let (levels, width) = shape(rooms.len())?;
         let rooms = Vec::from_slice(alloc, rooms)?;
-        let sold = Vec::from_slice(alloc, sold)?;
-        Ok(Ledger { rooms, sold })
+        let mut leasts = vec![in alloc; 0; 2 * width]?;
+        let mut amounts = vec![in alloc; 0; 2 * width]?;
+        lay(&mut leasts, &rooms, width + 1);
+        lay(&mut amounts, sold, width + 1);
+        build(&mut leasts, &amounts, levels, width);
+        Ok(Ledger {
+            rooms,
+            leasts,
+            amounts,
+            levels,
+            width,
+        })
     }
 
     /// The first night of the span with fewer rooms left than `units`, if there is one.
+    ///
+    /// A short span is looked at night by night. A longer one is refused or passed as a whole by the least number that
+    /// it has left, and where that is too small, the walk goes down to the first night, the left child first.
     pub fn first_full(&self, span: Span, units: u64) -> Option<u32>
         requires { IsSpanWithin (length self.now.rooms) span }
         ensures { result ≡ first_short (rooms_left_on self.now) span units }
     {
+        if span.to - span.from > FEW {
+            return self.first_below(span, units);
+        }
         for night in span.from..span.to {
             if self.rooms(night) - self.sold(night) < units {
                 return Some(night);
@@ -58,23 +117,62 @@ impl Ledger {
         None
     }
 
-    /// Sells so many rooms on each night of the span.
+    /// The same, by a walk over the tree.
+    fn first_below(&self, span: Span, units: u64) -> Option<u32>
+        requires { IsSpanWithin (length self.now.rooms) span }
+        ensures { result ≡ first_short (rooms_left_on self.now) span units }
+    {
+        let low = self.width + span.from as usize;
+        let high = self.width + span.to as usize + 1;
+        if least_between(&self.leasts, &self.amounts, self.levels, low, high) >= units {
+            return None;
+        }
+        let leaf = first_between(&self.leasts, &self.amounts, self.levels, low, high, units);
+        if leaf < high {
+            Some((leaf - self.width - 1) as u32)
+        } else {
+            None
+        }
+    }
+
+    /// Sells so many rooms on each night of the span: on the nodes that cover it, at most two on each level.
     pub fn take(&mut self, span: Span, units: u64)
         requires span { IsSpanWithin (length self.old.rooms) span }
         requires left { HasLeft self.old span units }
         ensures { self.new ≡ taken self.old span units }
     {
-        add(&self.rooms, &mut self.sold, span, units);
+        let _ = &self.rooms;
+        let low = self.width + span.from as usize;
+        let end = self.width + span.to as usize + 1;
+        take_between(
+            &mut self.leasts,
+            &mut self.amounts,
+            self.levels,
+            low,
+            end,
+            units,
+        );
     }
 
-    /// Gives so many sold rooms back on each night of the span.
+    /// Gives so many sold rooms back on each night of the span: on the nodes where `take` of the same span left them.
+    /// What was sold otherwise is pushed down to the nights and given back on each, in time that grows with the nights
+    /// of the span times the levels.
     pub fn release(&mut self, span: Span, units: u64)
         requires span { IsSpanWithin (length self.old.rooms) span }
         requires sold { HasSold self.old span units }
         ensures { self.new ≡ released self.old span units }
     {
         let _ = &self.rooms;
-        subtract(&mut self.sold, span, units);
+        let low = self.width + span.from as usize;
+        let past = self.width + span.to as usize + 1;
+        release_between(
+            &mut self.leasts,
+            &mut self.amounts,
+            self.levels,
+            low,
+            past,
+            units,
+        );
     }
 
     /// Sets the rooms of a night, unless more of them are sold.
@@ -89,7 +187,10 @@ impl Ledger {
         if rooms < sold {
             return Err(BelowSold { sold });
         }
+        let leaf = self.width + night as usize + 1;
         self.rooms[night as usize] = rooms;
+        self.leasts[leaf] = rooms;
+        bring_up(&mut self.leasts, &self.amounts, self.levels, leaf);
         Ok(())
     }
 
@@ -99,7 +200,7 @@ impl Ledger {
         ensures value { result ≡ slice_index self.now.rooms night }
         ensures ledger { IsInventory self.now }
     {
-        let _ = &self.sold;
+        let _ = &self.amounts;
         self.rooms[night as usize]
     }
 
@@ -109,34 +210,6 @@ impl Ledger {
         ensures value { result ≡ slice_index self.now.sold night }
         ensures ledger { IsInventory self.now }
     {
-        self.sold[night as usize]
-    }
-}
-
-/// Adds so many sold rooms on each night of the span, as many as are left at most.
-fn add(rooms: &[u64], sold: &mut [u64], span: Span, units: u64)
-    requires ordered { span.from ≤ span.to }
-    requires within { span.to ≤ length sold.old }
-    requires one_each { length rooms.now ≡ length sold.old }
-    requires left { (n : ℕ) → span.from ≤ n → n < span.to → slice_index sold.old n + units ≤ slice_index rooms.now n }
-    ensures { sold.new ≡ rooms_moved sold.old span true units }
-{
-    for night in span.from..span.to {
-        let place = night as usize;
-        let left = rooms[place] - sold[place];
-        prove!(units <= left);
-        sold[place] += units;
-    }
-}
-
-/// Takes so many sold rooms off each night of the span.
-fn subtract(sold: &mut [u64], span: Span, units: u64)
-    requires ordered { span.from ≤ span.to }
-    requires within { span.to ≤ length sold.old }
-    requires fits { (n : ℕ) → span.from ≤ n → n < span.to → units ≤ slice_index sold.old n }
-    ensures { sold.new ≡ rooms_moved sold.old span false units }
-{
-    for night in span.from..span.to {
-        sold[night as usize] -= units;
+        way(&self.amounts, self.levels, self.width + night as usize + 1)
     }
 }

@@ -1,5 +1,31 @@
 -- What an actor's looks and calls leave.
-use Rattle.std.proofs.Common.{◌≡◌, ℕ, ◌<◌, ◌≤◌, Bool, true, false, cond, ◌&&◌, nat_lt, ◌==◌, [], ◌∷◌, ◌++◌, length, Some, MatchOption, refl, sym, ap, subst, ◌∙◌, arith, append-nil, length-append}
+use Rattle.std.proofs.Common.{
+  ◌≡◌,
+  ℕ,
+  ◌<◌,
+  ◌≤◌,
+  Bool,
+  true,
+  false,
+  cond,
+  ◌&&◌,
+  nat_lt,
+  ◌==◌,
+  [],
+  ◌∷◌,
+  ◌++◌,
+  length,
+  Some,
+  MatchOption,
+  refl,
+  sym,
+  ap,
+  subst,
+  ◌∙◌,
+  arith,
+  append-nil,
+  length-append,
+}
 use Rattle.std.specs.Arc.{arc_value}
 use Rattle.std.proofs.lemmas.List.Elements.{All-nil, All-cons, filter_map-append}
 use Rattle.std.proofs.lemmas.Bool.{ltb-true, ltb-false, eqb-true}
@@ -75,18 +101,25 @@ commands_push es x = filter_map-append (λ (y : Line). command_of y.entry.act) e
 
 -- a call, where a vector that it logs is as it must be
 pub call_acts : (least : ℕ) (old new : PassState) (call : Call) (answer : Answer) (c : IsCalled old new call answer)
-    → ((reply : Reply) → answer ≡ Logged reply → is_publish (line_of old.caller call reply) ≡ true → IsLeastVector old.house least c.found (line_of old.caller call reply)) → HasActed least old new
+    → ((reply : Reply) → answer ≡ Logged reply → is_publish (line_of old.caller call reply) ≡ true →
+    IsLeastVector old.house least c.found (line_of old.caller call reply)) → HasActed least old new
 call_acts least old new call answer c vector =
     let house : new.house ≡ old.house = ap (λ (p : PassState). p.house) c.pass in
     let caller : new.caller ≡ old.caller = ap (λ (p : PassState). p.caller) c.pass in
     let made : new.calls ≡ calls new.seen old.caller = ap (λ (p : PassState). p.calls) c.pass in
     let turns : new.turns ≡ old.turns ++ length c.found ∷ [] = ap (λ (p : PassState). p.turns) c.pass in
     let begins = called_begins old new call answer c in
-    let le : length c.found ≤ length new.seen = by_answer (diary old.house c.found) (diary old.house new.seen) old.caller call answer (length c.found ≤ length new.seen) c.answered
+    let le : length c.found ≤ length new.seen =
+    by_answer (diary old.house c.found) (diary old.house new.seen) old.caller call answer (length c.found ≤ length new.seen) c.answered
     (λ l. let n = ap (λ d. length d.history) l.adds in omega (arith, n, length-append c.found (line_of old.caller call l.reply ∷ [])))
     (λ off same. let n = ap (λ d. length d.history) same in omega (arith, n)) in
-    let more : IsPrefix old.calls new.calls = by_answer (diary old.house c.found) (diary old.house new.seen) old.caller call answer (IsPrefix old.calls new.calls) c.answered
-    (λ l. (line_of old.caller call l.reply ∷ [], made ∙ ap (λ d. calls d.history old.caller) l.adds ∙ calls_push c.found old.caller call l.reply ∙ ap (λ es. es ++ line_of old.caller call l.reply ∷ []) c.own))
+    let more : IsPrefix old.calls new.calls =
+    by_answer (diary old.house c.found) (diary old.house new.seen) old.caller call answer (IsPrefix old.calls new.calls) c.answered
+    (λ l. (
+      line_of old.caller call l.reply ∷ [],
+      made ∙ ap (λ d. calls d.history old.caller) l.adds ∙ calls_push c.found old.caller call l.reply ∙
+          ap (λ es. es ++ line_of old.caller call l.reply ∷ []) c.own,
+    ))
     (λ off same. ([], made ∙ ap (λ d. calls d.history old.caller) same ∙ c.own ∙ sym (append-nil old.calls))) in
     record {
       begins = begins;
@@ -98,8 +131,10 @@ call_acts least old new call answer c vector =
       calls = more;
       turns = (length c.found ∷ [], turns, All-cons (λ t. t ≤ length new.seen) (length c.found) [] le (All-nil (λ t. t ≤ length new.seen)));
       keeps = λ a.
-          let found : OwnVectors old.house least c.found old.caller = own_longer old.house least old.caller old.seen c.found c.begins (c.own ∙ sym a.own) a.vectors in
-          let vs : OwnVectors old.house least new.seen old.caller = by_answer (diary old.house c.found) (diary old.house new.seen) old.caller call answer (OwnVectors old.house least new.seen old.caller) c.answered
+          let found : OwnVectors old.house least c.found old.caller =
+          own_longer old.house least old.caller old.seen c.found c.begins (c.own ∙ sym a.own) a.vectors in
+          let vs : OwnVectors old.house least new.seen old.caller =
+          by_answer (diary old.house c.found) (diary old.house new.seen) old.caller call answer (OwnVectors old.house least new.seen old.caller) c.answered
           (λ l.
           let x = line_of old.caller call l.reply in
           let e : new.seen ≡ c.found ++ x ∷ [] = ap (λ d. d.history) l.adds in
@@ -118,15 +153,19 @@ call_acts least old new call answer c vector =
     second false b e = absurd (cc)
 
 -- a publication is superseded, or finds no number left, or is logged
-pub by_publication : (P : Type 0) (h : Inn) (found seen : History) (caller : ℕ) (call : Call) (position least : ℕ) (answer : Answer) → act_of call ≡ PublishAct position → AsksFor least call
+pub by_publication : (P : Type 0) (h : Inn) (found seen : History) (caller : ℕ) (call : Call) (position least : ℕ) (answer : Answer) →
+    act_of call ≡ PublishAct position → AsksFor least call
     → IsAnswered (diary h found) (diary h seen) caller call answer
-    → (((p changes : ℕ) → answer ≡ Superseded p changes → changes_between found (last_position found) position < least → seen ≡ found → P) × ((answer ≡ PublicationsFull) → vectors found ≡ h.limits.publications → seen ≡ found → P)
-    × ((reply : Reply) → answer ≡ Logged reply → least ≤ changes_between found (last_position found) position → seen ≡ found ++ line_of caller call reply ∷ [] → P))
+    → (((p changes : ℕ) → answer ≡ Superseded p changes → changes_between found (last_position found) position < least → seen ≡ found → P) ×
+    ((answer ≡ PublicationsFull) → vectors found ≡ h.limits.publications → seen ≡ found → P)
+    × ((reply : Reply) → answer ≡ Logged reply → least ≤ changes_between found (last_position found) position →
+    seen ≡ found ++ line_of caller call reply ∷ [] → P))
     → P
 by_publication P h found seen caller (Do command quoted) position least answer acts asks is k = absurd asks
 by_publication P h found seen caller Enrol position least answer acts asks is k = absurd asks
 by_publication P h found seen caller Leave position least answer acts asks is k = absurd asks
-by_publication P h found seen caller (Publish board n) position least answer acts asks is k = older (nat_lt (changes_between found (last_position found) (arc_value board).position) n) refl is
+by_publication P h found seen caller (Publish board n) position least answer acts asks is k =
+    older (nat_lt (changes_between found (last_position found) (arc_value board).position) n) refl is
   where
     at : (arc_value board).position ≡ position
     at = cc
@@ -139,22 +178,28 @@ by_publication P h found seen caller (Publish board n) position least answer act
         (IsLogged (diary h found) (diary h seen) caller (Publish board n) answer) (IsRefused (diary h found) (diary h seen) answer) → P
     older true e r =
         let few : changes < n = ltb-true changes n e in
-        k.0 (last_position found) changes r.0 (subst (λ p. changes_between found (last_position found) p < least) at (subst (λ m. changes < m) asks few)) (ap (λ d. d.history) r.1)
+        k.0 (last_position found) changes r.0 (subst (λ p. changes_between found (last_position found) p < least) at (subst (λ m. changes < m) asks few))
+        (ap (λ d. d.history) r.1)
     older false e m = full (vectors found == h.limits.publications) refl m
       where
         full : (b : Bool) → (vectors found == h.limits.publications) ≡ b
-            → MatchOption (refuse_if b PublicationsFull) (IsLogged (diary h found) (diary h seen) caller (Publish board n) answer) (IsRefused (diary h found) (diary h seen) answer) → P
+            → MatchOption (refuse_if b PublicationsFull) (IsLogged (diary h found) (diary h seen) caller (Publish board n) answer)
+            (IsRefused (diary h found) (diary h seen) answer) → P
         full true f r = k.1 r.0 (eqb-true (vectors found) h.limits.publications f) (ap (λ d. d.history) r.1)
         full false f l =
             let many : n ≤ changes = ltb-false changes n e in
-            k.2 l.reply l.answer_is (subst (λ p. least ≤ changes_between found (last_position found) p) at (subst (λ m. m ≤ changes) asks many)) (ap (λ d. d.history) l.adds)
+            k.2 l.reply l.answer_is (subst (λ p. least ≤ changes_between found (last_position found) p) at (subst (λ m. m ≤ changes) asks many))
+            (ap (λ d. d.history) l.adds)
 
 -- an offer
-pub offer_acts : (least position : ℕ) (old new : PassState) (answer : Answer) → IsOffered least position old new answer → position ≤ length old.seen → HasActed least old new × NoCommand old new
+pub offer_acts : (least position : ℕ) (old new : PassState) (answer : Answer) → IsOffered least position old new answer → position ≤ length old.seen →
+    HasActed least old new × NoCommand old new
 offer_acts least position old new answer o within =
     let c = o.called in
-    let vector : (reply : Reply) → answer ≡ Logged reply → is_publish (line_of old.caller o.call reply) ≡ true → IsLeastVector old.house least c.found (line_of old.caller o.call reply) = λ reply logged publishes.
-    by_publication (IsLeastVector old.house least c.found (line_of old.caller o.call reply)) old.house c.found new.seen old.caller o.call position least answer o.publishes o.least_is c.answered (
+    let vector : (reply : Reply) → answer ≡ Logged reply → is_publish (line_of old.caller o.call reply) ≡ true →
+    IsLeastVector old.house least c.found (line_of old.caller o.call reply) = λ reply logged publishes.
+    by_publication (IsLeastVector old.house least c.found (line_of old.caller o.call reply))
+    old.house c.found new.seen old.caller o.call position least answer o.publishes o.least_is c.answered (
       (λ p changes e few same. absurd (let f : Logged reply ≡ Superseded p changes = sym logged ∙ e in cc)),
       (λ e full same. absurd (let f : Logged reply ≡ PublicationsFull = sym logged ∙ e in cc)),
       (λ r e many grown.
@@ -188,6 +233,8 @@ offer_acts least position old new answer o within =
 
     no_command : NoCommand old new
     no_command = by_answer (diary old.house o.called.found) (diary old.house new.seen) old.caller o.call answer (NoCommand old new) o.called.answered
-        (λ l. ap commands_in (made ∙ ap (λ d. calls d.history old.caller) l.adds ∙ calls_push o.called.found old.caller o.call l.reply ∙ ap (λ es. es ++ line_of old.caller o.call l.reply ∷ []) o.called.own)
-        ∙ commands_push old.calls (line_of old.caller o.call l.reply) ∙ ap (λ cs. commands_in old.calls ++ cs) (none o.call l.reply o.publishes) ∙ append-nil (commands_in old.calls))
+        (λ l. ap commands_in (made ∙ ap (λ d. calls d.history old.caller) l.adds ∙ calls_push o.called.found old.caller o.call l.reply ∙
+        ap (λ es. es ++ line_of old.caller o.call l.reply ∷ []) o.called.own)
+        ∙ commands_push old.calls (line_of old.caller o.call l.reply) ∙ ap (λ cs. commands_in old.calls ++ cs) (none o.call l.reply o.publishes) ∙
+        append-nil (commands_in old.calls))
         (λ off same. ap commands_in (made ∙ ap (λ d. calls d.history old.caller) same ∙ o.called.own))

@@ -1,5 +1,27 @@
 -- The vectors of a caller, in a longer history.
-use Rattle.std.proofs.Common.{◌≡◌, ℕ, Bool, true, false, ◌&&◌, cond, [], ◌∷◌, ◌++◌, length, take, refl, sym, ap, subst, ◌∙◌, arith, append-nil, append_assoc, length-append}
+use Rattle.std.proofs.Common.{
+  ◌≡◌,
+  ℕ,
+  Bool,
+  true,
+  false,
+  ◌&&◌,
+  cond,
+  [],
+  ◌∷◌,
+  ◌++◌,
+  length,
+  take,
+  refl,
+  sym,
+  ap,
+  subst,
+  ◌∙◌,
+  arith,
+  append-nil,
+  append_assoc,
+  length-append,
+}
 use mathlib.Core.Logic.{dite}
 use native.Mathlib.Decide.{dec_lt}
 use Rattle.std.proofs.Math.Seq.{take-length}
@@ -13,7 +35,8 @@ use Rattle.bp_core.proofs.Pushes.{line_at-old, line_at-new}
 use Rattle.bp_optimise.specs.Vectors.{IsLeastVector, OwnVectors}
 
 -- one line more
-pub own_push : (h : Inn) (least : ℕ) (G : History) (x : Line) (c : ℕ) → OwnVectors h least G c → ((is_by c x && is_publish x) ≡ true → IsLeastVector h least G x) → OwnVectors h least (G ++ x ∷ []) c
+pub own_push : (h : Inn) (least : ℕ) (G : History) (x : Line) (c : ℕ) → OwnVectors h least G c →
+    ((is_by c x && is_publish x) ≡ true → IsLeastVector h least G x) → OwnVectors h least (G ++ x ∷ []) c
 own_push h least G x c own new i lt is = dite (dec_lt i (length G))
     (λ old.
     let at : line_at (G ++ x ∷ []) i ≡ line_at G i = line_at-old G x i old in
@@ -33,10 +56,12 @@ pub own_quiet : (h : Inn) (least : ℕ) (c : ℕ) (rest G : History) → calls r
 own_quiet h least c [] G none own = subst (λ H. OwnVectors h least H c) (sym (append-nil G)) own
 own_quiet h least c (x ∷ rest) G none own = go (own_quiet h least c rest (G ++ x ∷ [])) (is_by c x) refl none
   where
-    go : (calls rest c ≡ [] → OwnVectors h least (G ++ x ∷ []) c → OwnVectors h least ((G ++ x ∷ []) ++ rest) c) → (b : Bool) → is_by c x ≡ b → cond b (x ∷ calls rest c) (calls rest c) ≡ [] → OwnVectors h least (G ++ x ∷ rest) c
+    go : (calls rest c ≡ [] → OwnVectors h least (G ++ x ∷ []) c → OwnVectors h least ((G ++ x ∷ []) ++ rest) c) → (b : Bool) → is_by c x ≡ b →
+        cond b (x ∷ calls rest c) (calls rest c) ≡ [] → OwnVectors h least (G ++ x ∷ rest) c
     go on true e n = absurd (cc)
     go on false e n =
-        let pushed : OwnVectors h least (G ++ x ∷ []) c = own_push h least G x c own (λ t. absurd (let f : false ≡ true = sym (ap (λ b. b && is_publish x) e) ∙ t in cc)) in
+        let pushed : OwnVectors h least (G ++ x ∷ []) c =
+        own_push h least G x c own (λ t. absurd (let f : false ≡ true = sym (ap (λ b. b && is_publish x) e) ∙ t in cc)) in
         subst (λ H. OwnVectors h least H c) (append_assoc G (x ∷ []) rest) (on n pushed)
 
 no_more : (xs ys zs : History) → zs ≡ xs ++ ys → zs ≡ xs → ys ≡ []

@@ -22,8 +22,10 @@ called_begins old new call answer c =
     (λ off same. (first.0, ap (λ d. d.history) same ∙ first.1))
 
 -- an optimiser goes with the pass after a call too
-pub goes_after : (old new : PassState) (call : Call) (answer : Answer) (o : Optimising) → IsCalled old new call answer → GoesWith old.house old.seen o → GoesWith new.house new.seen o
-goes_after old new call answer o c g = goes_later old.house new.house old.seen new.seen o (ap (λ (p : PassState). p.house) c.pass) (called_begins old new call answer c) g
+pub goes_after : (old new : PassState) (call : Call) (answer : Answer) (o : Optimising) → IsCalled old new call answer → GoesWith old.house old.seen o →
+    GoesWith new.house new.seen o
+goes_after old new call answer o c g =
+    goes_later old.house new.house old.seen new.seen o (ap (λ (p : PassState). p.house) c.pass) (called_begins old new call answer c) g
 
 pub on_err : (A E : Type 0) (r : Result A E) (P : Type 0) → P → OnErr r P
 on_err A E (Ok x) P p = tt

@@ -1,5 +1,36 @@
 -- How the turns of a worker are settled.
-use Rattle.std.proofs.Common.{◌≡◌, ◌⊎◌, inl, inr, ℕ, ◌<◌, ◌≤◌, Bool, true, false, ◌||◌, cond, List, [], ◌∷◌, ◌++◌, length, take, count_by, All, is_some, refl, sym, ap, subst, ◌∙◌, arith, append-nil, append_assoc, length-append}
+use Rattle.std.proofs.Common.{
+  ◌≡◌,
+  ◌⊎◌,
+  inl,
+  inr,
+  ℕ,
+  ◌<◌,
+  ◌≤◌,
+  Bool,
+  true,
+  false,
+  ◌||◌,
+  cond,
+  List,
+  [],
+  ◌∷◌,
+  ◌++◌,
+  length,
+  take,
+  count_by,
+  All,
+  is_some,
+  refl,
+  sym,
+  ap,
+  subst,
+  ◌∙◌,
+  arith,
+  append-nil,
+  append_assoc,
+  length-append,
+}
 use Rattle.std.specs.List.{list_any, range_with_len}
 use Rattle.std.proofs.Math.Seq.{take-length}
 use Rattle.std.proofs.lemmas.List.{take-append-le}
@@ -56,7 +87,8 @@ fewer_by p q only (x ∷ xs) =
 
 pub left_grows : (G H : History) (sessions : ℕ) → IsPrefix G H → HaveLeft G sessions → HaveLeft H sessions
 left_grows G H sessions (rest, is) left =
-    let only : (c : ℕ) → has_left G c ≡ true → has_left H c ≡ true = λ c did. ap (list_any (is_leave_by c)) is ∙ list_any-append (is_leave_by c) G rest ∙ or_first (has_left G c) (list_any (is_leave_by c) rest) did in
+    let only : (c : ℕ) → has_left G c ≡ true → has_left H c ≡ true = λ c did. ap (list_any (is_leave_by c)) is ∙ list_any-append (is_leave_by c) G rest ∙
+    or_first (has_left G c) (list_any (is_leave_by c) rest) did in
     let more = fewer_by (has_left G) (has_left H) only (range_with_len 1 sessions) in
     let most = count_by-le-length (has_left H) (range_with_len 1 sessions) in
     omega (arith, left, more, most, length-range_with_len 1 sessions)
@@ -80,7 +112,8 @@ take_on : (G H : History) (t : ℕ) → IsPrefix G H → t ≤ length G → take
 take_on G H t (rest, is) le = ap (take t) is ∙ take-append-le t G rest le
 
 -- a turn that is settled stays so
-pub settled_later : (h : Inn) (sessions lead : ℕ) (G H : History) (t : ℕ) → t ≤ length G → IsPrefix G H → IsLegal h H → IsSettledTurn h sessions lead G t → IsSettledTurn h sessions lead H t
+pub settled_later : (h : Inn) (sessions lead : ℕ) (G H : History) (t : ℕ) → t ≤ length G → IsPrefix G H → IsLegal h H → IsSettledTurn h sessions lead G t →
+    IsSettledTurn h sessions lead H t
 settled_later h sessions lead G H t le begins legal settled not_left many =
     let e = take_on G H t begins le in
     keep (settled (λ left. not_left (subst (λ K. HaveLeft K sessions) (sym e) left)) (subst (λ K. lead ≤ changes_after K (last_position K)) e many))
@@ -90,7 +123,8 @@ settled_later h sessions lead G H t le begins legal settled not_left many =
     keep (inr v) = inr (full_lasts h G H begins legal v)
 
 -- one turn more, at which all sessions had left
-pub settled_more : (sessions lead : ℕ) (a b c : PassState) (t : ℕ) → AddsSettled sessions lead a b → IsPrefix b.seen c.seen → c.house ≡ b.house → IsLegal b.house c.seen → c.turns ≡ b.turns ++ t ∷ []
+pub settled_more : (sessions lead : ℕ) (a b c : PassState) (t : ℕ) → AddsSettled sessions lead a b → IsPrefix b.seen c.seen → c.house ≡ b.house →
+    IsLegal b.house c.seen → c.turns ≡ b.turns ++ t ∷ []
     → t ≤ length c.seen → HaveLeft (take t c.seen) sessions → AddsSettled sessions lead a c
 settled_more sessions lead a b c t s begins house legal turns le left =
     let P : ℕ → Type 0 = IsSettledTurn b.house sessions lead c.seen in
@@ -100,12 +134,15 @@ settled_more sessions lead a b c t s begins house legal turns le left =
     record {
       added = s.added ++ t ∷ [];
       turns = turns ∙ ap (λ l. l ++ t ∷ []) s.turns ∙ append_assoc a.turns s.added (t ∷ []);
-      within = All-append (λ n. n ≤ length c.seen) s.added (t ∷ []) (turns_later (length b.seen) (length c.seen) s.added (prefix_le b.seen c.seen begins) s.within) (All-cons (λ n. n ≤ length c.seen) t [] le (All-nil (λ n. n ≤ length c.seen)));
+      within = All-append (λ n. n ≤ length c.seen) s.added (t ∷ [])
+          (turns_later (length b.seen) (length c.seen) s.added (prefix_le b.seen c.seen begins) s.within)
+          (All-cons (λ n. n ≤ length c.seen) t [] le (All-nil (λ n. n ≤ length c.seen)));
       settled = subst (λ h. All (IsSettledTurn h sessions lead c.seen) (s.added ++ t ∷ [])) (sym house) both;
     }
 
 -- a round that finds too few changes settles all turns so far
-pub unchanged_settles : (sessions lead changes : ℕ) (old new : PassState) → HasRead old new → changes ≡ changes_after new.seen (last_position new.seen) → changes < lead → SettlesAll sessions lead old new
+pub unchanged_settles : (sessions lead changes : ℕ) (old new : PassState) → HasRead old new → changes ≡ changes_after new.seen (last_position new.seen) →
+    changes < lead → SettlesAll sessions lead old new
 unchanged_settles sessions lead changes old new read is few start added =
     let a = adds_turns start old new read.begins added (looked old new read).turns in
     let fewer : changes_after new.seen (last_position new.seen) < lead = subst (λ n. n < lead) is few in
@@ -113,11 +150,13 @@ unchanged_settles sessions lead changes old new read is few start added =
       added = a.0;
       turns = a.1;
       within = a.2;
-      settled = All-weaker (λ t. t ≤ length new.seen) (IsSettledTurn new.house sessions lead new.seen) (λ t le. λ not_left many. inl (turns_settle.unchanged new.seen lead t le fewer many)) a.0 a.2;
+      settled = All-weaker (λ t. t ≤ length new.seen) (IsSettledTurn new.house sessions lead new.seen)
+          (λ t le. λ not_left many. inl (turns_settle.unchanged new.seen lead t le fewer many)) a.0 a.2;
     }
 
 -- a board that was not superseded settles all turns so far
-pub offered_settles : (sessions lead position : ℕ) (old new : PassState) (answer : Answer) → HasOffered old new position lead answer → ((p changes : ℕ) → answer ≡ LaterThere p changes → ⊥) → SettlesAll sessions lead old new
+pub offered_settles : (sessions lead position : ℕ) (old new : PassState) (answer : Answer) → HasOffered old new position lead answer →
+    ((p changes : ℕ) → answer ≡ LaterThere p changes → ⊥) → SettlesAll sessions lead old new
 offered_settles sessions lead position old new answer o newer start added =
     let c = o.offered.called in
     let h = o.middle.house in
@@ -127,11 +166,19 @@ offered_settles sessions lead position old new answer o newer start added =
     let house : new.house ≡ h = ap (λ (p : PassState). p.house) c.pass in
     let all : List ℕ = middle.0 ++ length c.found ∷ [] in
     let B : ℕ → Type 0 = λ t. t ≤ length c.found in
-    let within : All B all = All-append B middle.0 (length c.found ∷ []) (turns_later (length o.middle.seen) (length c.found) middle.0 (prefix_le o.middle.seen c.found c.begins) middle.2) (All-cons B (length c.found) [] (omega arith) (All-nil B)) in
-    let grown : length c.found ≤ length new.seen = by_answer (diary h c.found) (diary h new.seen) o.middle.caller o.offered.call answer (length c.found ≤ length new.seen) c.answered
+    let within : All B all =
+    All-append B middle.0 (length c.found ∷ [])
+    (turns_later (length o.middle.seen) (length c.found) middle.0 (prefix_le o.middle.seen c.found c.begins) middle.2)
+    (All-cons B (length c.found) [] (omega arith) (All-nil B)) in
+    let grown : length c.found ≤ length new.seen =
+    by_answer (diary h c.found) (diary h new.seen) o.middle.caller o.offered.call answer (length c.found ≤ length new.seen) c.answered
     (λ l. let n = ap (λ d. length d.history) l.adds in omega (arith, n, length-append c.found (line_of o.middle.caller o.offered.call l.reply ∷ [])))
     (λ off same. let n = ap (λ d. length d.history) same in omega (arith, n)) in
-    let each : (t : ℕ) → t ≤ length c.found → IsSettledTurn h sessions lead new.seen t = by_publication ((t : ℕ) → t ≤ length c.found → IsSettledTurn h sessions lead new.seen t) h c.found new.seen o.middle.caller o.offered.call position lead answer o.offered.publishes o.offered.least_is c.answered (
+    let each : (t : ℕ) → t ≤ length c.found →
+    IsSettledTurn h sessions lead new.seen t =
+    by_publication ((t : ℕ) → t ≤ length c.found →
+    IsSettledTurn h sessions lead new.seen t)
+    h c.found new.seen o.middle.caller o.offered.call position lead answer o.offered.publishes o.offered.least_is c.answered (
       (λ p changes e few same. absurd (newer p changes e)),
       (λ e full same t le not_left many. inr (ap vectors same ∙ full)),
       (λ reply e enough more t le not_left many.
@@ -143,10 +190,12 @@ offered_settles sessions lead position old new answer o newer start added =
       added = all;
       turns = turns ∙ ap (λ l. l ++ length c.found ∷ []) middle.1 ∙ append_assoc start.turns middle.0 (length c.found ∷ []);
       within = turns_later (length c.found) (length new.seen) all grown within;
-      settled = subst (λ k. All (IsSettledTurn k sessions lead new.seen) all) (sym house) (All-weaker B (IsSettledTurn h sessions lead new.seen) each all within);
+      settled = subst (λ k. All (IsSettledTurn k sessions lead new.seen) all) (sym house)
+          (All-weaker B (IsSettledTurn h sessions lead new.seen) each all within);
     }
 
-pub offered_acts : (least position : ℕ) (old new : PassState) (answer : Answer) → HasOffered old new position least answer → HasActed least old new × NoCommand old new
+pub offered_acts : (least position : ℕ) (old new : PassState) (answer : Answer) → HasOffered old new position least answer →
+    HasActed least old new × NoCommand old new
 offered_acts least position old new answer o =
     let look : HasLooked old o.middle = looked_again old o.first o.middle (looked old o.first o.looked) o.between in
     let at = o.caught_up in
@@ -161,17 +210,24 @@ round_acts least position old new (Superseded p changes) r = offered_acts least 
 round_acts least position old new PublicationsFull r = offered_acts least position old new NoneLeft r
 
 -- a worker that has made its rounds leaves
-pub work_done : (sessions lead : ℕ) (pass mid left : PassState) (memory : Bool) → HasActed lead pass mid → NoCommand pass mid → (memory ≡ false → HaveLeft mid.seen sessions) → (memory ≡ false → AddsSettled sessions lead pass mid)
+pub work_done : (sessions lead : ℕ) (pass mid left : PassState) (memory : Bool) → HasActed lead pass mid → NoCommand pass mid →
+    (memory ≡ false → HaveLeft mid.seen sessions) → (memory ≡ false → AddsSettled sessions lead pass mid)
     → IsCalled mid left Leave (Logged Done) → AddsCall mid left Leave (Logged Done) → IsWork sessions lead pass left memory
 work_done sessions lead pass mid left memory acted none sessions_left settled c adds =
     let l = c.answered in
     let reply : l.reply ≡ Done = cc_reply l.reply l.answer_is in
-    let line : line_of mid.caller Leave l.reply ≡ line_of pass.caller Leave Done = ap (λ r. line_of mid.caller Leave r) reply ∙ ap (λ n. line_of n Leave Done) acted.caller in
+    let line : line_of mid.caller Leave l.reply ≡ line_of pass.caller Leave Done = ap (λ r. line_of mid.caller Leave r) reply ∙
+    ap (λ n. line_of n Leave Done) acted.caller in
     let seen : left.seen ≡ c.found ++ line_of pass.caller Leave Done ∷ [] = ap (λ d. d.history) l.adds ∙ ap (λ x. c.found ++ x ∷ []) line in
     let turns : left.turns ≡ mid.turns ++ length c.found ∷ [] = ap (λ (p : PassState). p.turns) c.pass in
     let house : left.house ≡ mid.house = ap (λ (p : PassState). p.house) c.pass in
-    let begins : IsPrefix mid.seen left.seen = (c.begins.0 ++ line_of pass.caller Leave Done ∷ [], seen ∙ ap (λ l. l ++ line_of pass.caller Leave Done ∷ []) c.begins.1 ∙ append_assoc mid.seen c.begins.0 (line_of pass.caller Leave Done ∷ [])) in
-    let taken : take (length c.found) left.seen ≡ c.found = ap (take (length c.found)) seen ∙ take-append-le (length c.found) c.found (line_of pass.caller Leave Done ∷ []) (omega arith) ∙ take-length c.found in
+    let begins : IsPrefix mid.seen left.seen = (
+      c.begins.0 ++ line_of pass.caller Leave Done ∷ [],
+      seen ∙ ap (λ l. l ++ line_of pass.caller Leave Done ∷ []) c.begins.1 ∙
+          append_assoc mid.seen c.begins.0 (line_of pass.caller Leave Done ∷ []),
+    ) in
+    let taken : take (length c.found) left.seen ≡ c.found = ap (take (length c.found)) seen ∙
+    take-append-le (length c.found) c.found (line_of pass.caller Leave Done ∷ []) (omega arith) ∙ take-length c.found in
     let n = ap length seen in
     record {
       acted = acts_again lead pass mid left acted (call_acts lead mid left Leave (Logged Done) c (λ r e t. absurd (cc)));
@@ -181,7 +237,8 @@ work_done sessions lead pass mid left memory acted none sessions_left settled c 
       earlier = mid.calls;
       last = adds ∙ ap (λ n. mid.calls ++ line_of n Leave Done ∷ []) acted.caller;
       sessions_left = λ m. left_grows mid.seen c.found sessions c.begins (sessions_left m);
-      settled = λ m. settled_more sessions lead pass mid left (length c.found) (settled m) begins house c.legal turns (omega (arith, n, length-append c.found (line_of pass.caller Leave Done ∷ [])))
+      settled = λ m. settled_more sessions lead pass mid left (length c.found) (settled m) begins house c.legal turns
+          (omega (arith, n, length-append c.found (line_of pass.caller Leave Done ∷ [])))
           (subst (λ K. HaveLeft K sessions) (sym taken) (left_grows mid.seen c.found sessions c.begins (sessions_left m)));
     }
   where
@@ -194,32 +251,48 @@ settles_after sessions lead old mid new read settles start added = settles start
 
 -- no turn at all
 pub settled_none : (sessions lead : ℕ) (p : PassState) → AddsSettled sessions lead p p
-settled_none sessions lead p = record { added = []; turns = sym (append-nil p.turns); within = All-nil (λ t. t ≤ length p.seen); settled = All-nil (IsSettledTurn p.house sessions lead p.seen) }
+settled_none sessions lead p =
+    record {
+      added = [];
+      turns = sym (append-nil p.turns);
+      within = All-nil (λ t. t ≤ length p.seen);
+      settled =
+          All-nil (IsSettledTurn p.house sessions lead p.seen);
+    }
 
 -- a round that was not superseded settles all turns so far
-pub round_settles : (sessions lead position : ℕ) (old new : PassState) (r : Round) → IsRound old new position lead r → ((p changes : ℕ) → r ≡ Superseded p changes → ⊥) → SettlesAll sessions lead old new
+pub round_settles : (sessions lead position : ℕ) (old new : PassState) (r : Round) → IsRound old new position lead r →
+    ((p changes : ℕ) → r ≡ Superseded p changes → ⊥) → SettlesAll sessions lead old new
 round_settles sessions lead position old new (Unchanged changes) r newer = unchanged_settles sessions lead changes old new r.0 r.1 r.2
-round_settles sessions lead position old new (Published number) r newer = offered_settles sessions lead position old new (Logged (Vector number)) r (λ p changes e. absurd (cc))
+round_settles sessions lead position old new (Published number) r newer =
+    offered_settles sessions lead position old new (Logged (Vector number)) r (λ p changes e. absurd (cc))
 round_settles sessions lead position old new (Superseded q more) r newer = absurd (newer q more refl)
 round_settles sessions lead position old new PublicationsFull r newer = offered_settles sessions lead position old new NoneLeft r (λ p changes e. absurd (cc))
 
 -- a step by what its round did
-pub step_by_round : (sessions lead position : ℕ) (was again : Bool) (old mid new : PassState) (r : Round) → HasRead old mid → IsRound mid new position lead r → again ≡ is_superseded r → IsStep sessions lead was old new (Rounds again)
+pub step_by_round : (sessions lead position : ℕ) (was again : Bool) (old mid new : PassState) (r : Round) → HasRead old mid →
+    IsRound mid new position lead r → again ≡ is_superseded r → IsStep sessions lead was old new (Rounds again)
 step_by_round sessions lead position was again old mid new r read is e = subst (λ b. IsStep sessions lead was old new (Rounds b)) (sym e) (by_round r is)
   where
     by_round : (r : Round) → IsRound mid new position lead r → IsStep sessions lead was old new (Rounds (is_superseded r))
-    by_round (Unchanged changes) is = settles_after sessions lead old mid new read (round_settles sessions lead position mid new (Unchanged changes) is (λ p n e. absurd (cc)))
-    by_round (Published number) is = settles_after sessions lead old mid new read (round_settles sessions lead position mid new (Published number) is (λ p n e. absurd (cc)))
+    by_round (Unchanged changes) is =
+        settles_after sessions lead old mid new read (round_settles sessions lead position mid new (Unchanged changes) is (λ p n e. absurd (cc)))
+    by_round (Published number) is =
+        settles_after sessions lead old mid new read (round_settles sessions lead position mid new (Published number) is (λ p n e. absurd (cc)))
     by_round (Superseded p changes) is = tt
-    by_round PublicationsFull is = settles_after sessions lead old mid new read (round_settles sessions lead position mid new PublicationsFull is (λ p n e. absurd (cc)))
+    by_round PublicationsFull is =
+        settles_after sessions lead old mid new read (round_settles sessions lead position mid new PublicationsFull is (λ p n e. absurd (cc)))
 
-pub settles_on : (sessions lead : ℕ) (was again : Bool) (old new : PassState) → IsStep sessions lead was old new (Rounds again) → again ≡ false → SettlesAll sessions lead old new
+pub settles_on : (sessions lead : ℕ) (was again : Bool) (old new : PassState) → IsStep sessions lead was old new (Rounds again) → again ≡ false →
+    SettlesAll sessions lead old new
 settles_on sessions lead was true old new s e = absurd (cc)
 settles_on sessions lead was false old new s e = s
 
 -- the look at which all sessions had left
-pub leaves_settled : (sessions lead : ℕ) (was : Bool) (first old new : PassState) → IsStep sessions lead was old new Leaves → (was ≡ false → AddsSettled sessions lead first old) → AddsSettled sessions lead first new
+pub leaves_settled : (sessions lead : ℕ) (was : Bool) (first old new : PassState) → IsStep sessions lead was old new Leaves →
+    (was ≡ false → AddsSettled sessions lead first old) → AddsSettled sessions lead first new
 leaves_settled sessions lead was first old new s settled =
     let r = s.1 in
-    settled_more sessions lead first old new (length new.seen) (settled s.0) r.begins (ap (λ (p : PassState). p.house) r.pass) r.legal (ap (λ (p : PassState). p.turns) r.pass) (omega arith)
+    settled_more sessions lead first old new (length new.seen) (settled s.0) r.begins (ap (λ (p : PassState). p.house) r.pass) r.legal
+    (ap (λ (p : PassState). p.turns) r.pass) (omega arith)
     (subst (λ K. HaveLeft K sessions) (sym (take-length new.seen)) s.2)

@@ -1,5 +1,42 @@
 -- What a session's commands leave, and why it stops.
-use Rattle.std.proofs.Common.{◌≡◌, ℕ, ◌+◌, ◌<◌, ◌≤◌, Bool, true, false, ◌||◌, nat_le, ◌==◌, cond, List, [], ◌∷◌, ◌++◌, length, take, count_by, slice_index_or, Option, Some, None, Ok, Err, is_some, MatchOption, IsTrue, refl, sym, ap, subst, ◌∙◌, arith, append-nil, append_assoc}
+use Rattle.std.proofs.Common.{
+  ◌≡◌,
+  ℕ,
+  ◌+◌,
+  ◌<◌,
+  ◌≤◌,
+  Bool,
+  true,
+  false,
+  ◌||◌,
+  nat_le,
+  ◌==◌,
+  cond,
+  List,
+  [],
+  ◌∷◌,
+  ◌++◌,
+  length,
+  take,
+  count_by,
+  slice_index_or,
+  Option,
+  Some,
+  None,
+  Ok,
+  Err,
+  is_some,
+  MatchOption,
+  IsTrue,
+  refl,
+  sym,
+  ap,
+  subst,
+  ◌∙◌,
+  arith,
+  append-nil,
+  append_assoc,
+}
 use mathlib.Core.Logic.{dite}
 use native.Mathlib.Decide.{dec_lt}
 use Rattle.std.specs.List.{list_any}
@@ -18,7 +55,15 @@ use Rattle.bp_core.specs.declared.line.Reply.{Reply}
 use Rattle.bp_core.specs.declared.line.Reply.TheVariants.{Done}
 use Rattle.bp_core.specs.declared.call.Call.TheVariants.{Do, Leave}
 use Rattle.bp_core.specs.declared.call.Answer.{Answer}
-use Rattle.bp_core.specs.declared.call.Answer.TheVariants.{Logged, HistoryFull as NoEntry, Behind, Unquoted, Stale, Superseded as LaterThere, PublicationsFull as NoneLeft}
+use Rattle.bp_core.specs.declared.call.Answer.TheVariants.{
+  Logged,
+  HistoryFull as NoEntry,
+  Behind,
+  Unquoted,
+  Stale,
+  Superseded as LaterThere,
+  PublicationsFull as NoneLeft,
+}
 use Rattle.bp_core.specs.Lines.{History, is_command, is_publish, commands, vectors, last_position}
 use Rattle.bp_core.specs.Changes.{changes_after}
 use Rattle.bp_types.specs.Spans.{first_short}
@@ -56,13 +101,16 @@ use Rattle.bp_optimise.proofs.Doing.{acts_again, call_acts, commands_push, by_pu
 use Rattle.bp_optimise.proofs.Settling.{full_lasts, round_acts}
 
 -- a command adds no vector
-pub command_acts : (least : ℕ) (old new : PassState) (command : Command) (quoted : Option Quoted) (answer : Answer) → IsCalled old new (Do command quoted) answer → HasActed least old new
+pub command_acts : (least : ℕ) (old new : PassState) (command : Command) (quoted : Option Quoted) (answer : Answer) →
+    IsCalled old new (Do command quoted) answer → HasActed least old new
 command_acts least old new command quoted answer c = call_acts least old new (Do command quoted) answer c (λ r e t. absurd (cc))
 
 -- the ways in which a command may be answered
-pub by_command : (P : Type 0) (h : Inn) (found seen : History) (caller : ℕ) (command : Command) (quoted : Option Quoted) (answer : Answer) → IsAnswered (diary h found) (diary h seen) caller (Do command quoted) answer
+pub by_command : (P : Type 0) (h : Inn) (found seen : History) (caller : ℕ) (command : Command) (quoted : Option Quoted) (answer : Answer) →
+    IsAnswered (diary h found) (diary h seen) caller (Do command quoted) answer
     → ((answer ≡ NoEntry → commands found ≡ h.limits.entries → seen ≡ found → P)
-    × ((p changes : ℕ) → answer ≡ Behind p changes → is_booking command ≡ true → h.limits.stale_after ≤ changes_after found (last_position found) → seen ≡ found → P)
+    × ((p changes : ℕ) → answer ≡ Behind p changes → is_booking command ≡ true → h.limits.stale_after ≤ changes_after found (last_position found) →
+    seen ≡ found → P)
     × (answer ≡ Unquoted → is_plain command ≡ false → is_booking command ≡ false → seen ≡ found → P)
     × ((changes : ℕ) → answer ≡ Stale changes → is_plain command ≡ false → is_booking command ≡ false → seen ≡ found → P)
     × ((reply : Reply) → answer ≡ Logged reply → P))
@@ -104,11 +152,13 @@ by_command P h found seen caller command quoted answer is k = full (commands fou
     full true e r = k.0 r.0 (eqb-true (commands found) h.limits.entries e) (same _ r)
     full false e r = rest command refl r
 
-new_house : (old new : PassState) (command : Command) (quoted : Option Quoted) (answer : Answer) → IsCalled old new (Do command quoted) answer → new.house ≡ old.house
+new_house : (old new : PassState) (command : Command) (quoted : Option Quoted) (answer : Answer) → IsCalled old new (Do command quoted) answer →
+    new.house ≡ old.house
 new_house old new command quoted answer c = ap (λ (p : PassState). p.house) c.pass
 
 -- it was made
-pub is_made : (old new : PassState) (command : Command) (quoted : Option Quoted) (answer : Answer) → AddsCall old new (Do command quoted) answer → is_logged answer ≡ true → IsOutcome command old new Made
+pub is_made : (old new : PassState) (command : Command) (quoted : Option Quoted) (answer : Answer) → AddsCall old new (Do command quoted) answer →
+    is_logged answer ≡ true → IsOutcome command old new Made
 is_made old new command quoted (Logged reply) adds on = ap commands_in adds ∙ commands_push old.calls (line_of old.caller (Do command quoted) reply)
 is_made old new command quoted NoEntry adds on = absurd (cc)
 is_made old new command quoted (Behind p changes) adds on = absurd (cc)
@@ -129,14 +179,17 @@ group_logged (AmountTooLow displacement) = refl
 group_logged (NoRoomsLeft night) = refl
 
 -- a group that is not replied to is not logged
-pub group_stops : (old new : PassState) (command : Command) (quoted : Option Quoted) (stop : GroupStop) → AddsCall old new (Do command quoted) (group_answer (Err stop)) → new.calls ≡ old.calls
+pub group_stops : (old new : PassState) (command : Command) (quoted : Option Quoted) (stop : GroupStop) →
+    AddsCall old new (Do command quoted) (group_answer (Err stop)) → new.calls ≡ old.calls
 group_stops old new command quoted NoGroupLeft adds = adds
 group_stops old new command quoted WithoutQuote adds = adds
 group_stops old new command quoted (StaleQuote changes) adds = adds
 
 -- the pass has acted by a command, and the optimiser goes with it
-pub acts_by_command : (least : ℕ) (old new : PassState) (command : Command) (quoted : Option Quoted) (answer : Answer) (o : Optimising) → IsCalled old new (Do command quoted) answer → GoesWith old.house old.seen o → GoesOn least old new o
-acts_by_command least old new command quoted answer o c g = record { acted = command_acts least old new command quoted answer c; goes = goes_after old new (Do command quoted) answer o c g }
+pub acts_by_command : (least : ℕ) (old new : PassState) (command : Command) (quoted : Option Quoted) (answer : Answer) (o : Optimising) →
+    IsCalled old new (Do command quoted) answer → GoesWith old.house old.seen o → GoesOn least old new o
+acts_by_command least old new command quoted answer o c g =
+    record { acted = command_acts least old new command quoted answer c; goes = goes_after old new (Do command quoted) answer o c g }
 
 -- it has acted by two steps
 pub acts_twice : (least : ℕ) (a b c : PassState) (o : Optimising) → HasActed least a b → GoesOn least b c o → GoesOn least a c o
@@ -148,14 +201,16 @@ all_vectors old new position least o =
     let c = o.offered.called in
     let h = o.middle.house in
     let house : new.house ≡ h = ap (λ (p : PassState). p.house) c.pass in
-    by_publication (HasAllVectors new) h c.found new.seen o.middle.caller o.offered.call position least NoneLeft o.offered.publishes o.offered.least_is c.answered (
+    by_publication (HasAllVectors new)
+    h c.found new.seen o.middle.caller o.offered.call position least NoneLeft o.offered.publishes o.offered.least_is c.answered (
       (λ p changes e few same. absurd (cc)),
       (λ e full same. ap vectors same ∙ full ∙ ap (λ (i : Inn). i.limits.publications) (sym house)),
       (λ r e many more. absurd (cc)),
     )
 
 -- a try by what the round before the next one did
-pub attempt_by_round : (position lead : ℕ) (old new : PassState) (r : Round) (full : Bool) (command : Command) → IsRound old new position lead r → full ≡ found_none_left r → IsAttempt command old new (Again full)
+pub attempt_by_round : (position lead : ℕ) (old new : PassState) (r : Round) (full : Bool) (command : Command) → IsRound old new position lead r →
+    full ≡ found_none_left r → IsAttempt command old new (Again full)
 attempt_by_round position lead old new r full command is e = subst (λ b. IsAttempt command old new (Again b)) (sym e) (by_round r is)
   where
     by_round : (r : Round) → IsRound old new position lead r → IsAttempt command old new (Again (found_none_left r))
@@ -165,7 +220,8 @@ attempt_by_round position lead old new r full command is e = subst (λ b. IsAtte
     by_round NoVectorThere is = ((round_acts lead position old new NoVectorThere is).1, all_vectors old new position lead is)
 
 -- there is no entry left
-pub is_full : (old new : PassState) (command : Command) (quoted : Option Quoted) → IsCalled old new (Do command quoted) NoEntry → AddsCall old new (Do command quoted) NoEntry → IsOutcome command old new HistoryFull
+pub is_full : (old new : PassState) (command : Command) (quoted : Option Quoted) → IsCalled old new (Do command quoted) NoEntry →
+    AddsCall old new (Do command quoted) NoEntry → IsOutcome command old new HistoryFull
 is_full old new command quoted c adds =
     let e = new_house old new command quoted NoEntry c in
     by_command (IsOutcome command old new HistoryFull) old.house c.found new.seen old.caller command quoted NoEntry c.answered (
@@ -177,7 +233,8 @@ is_full old new command quoted c adds =
     )
 
 -- a Book that is behind, where there are as many vectors as there may be
-pub is_behind : (old new : PassState) (command : Command) (quoted : Option Quoted) (p changes : ℕ) → IsCalled old new (Do command quoted) (Behind p changes) → AddsCall old new (Do command quoted) (Behind p changes) → HasAllVectors old → IsOutcome command old new PublicationsFull
+pub is_behind : (old new : PassState) (command : Command) (quoted : Option Quoted) (p changes : ℕ) → IsCalled old new (Do command quoted) (Behind p changes) →
+    AddsCall old new (Do command quoted) (Behind p changes) → HasAllVectors old → IsOutcome command old new PublicationsFull
 is_behind old new command quoted p changes c adds full =
     let e = new_house old new command quoted (Behind p changes) c in
     by_command (IsOutcome command old new PublicationsFull) old.house c.found new.seen old.caller command quoted (Behind p changes) c.answered (
@@ -185,15 +242,21 @@ is_behind old new command quoted p changes c adds full =
       (λ q n is book many same.
           let begins : IsPrefix old.seen new.seen = subst (IsPrefix old.seen) (sym same) c.begins in
           let all : vectors new.seen ≡ old.house.limits.publications = full_lasts old.house old.seen new.seen begins c.legal full in
-          let at : old.house.limits.stale_after ≤ changes_after new.seen (last_position new.seen) = subst (λ H. old.house.limits.stale_after ≤ changes_after H (last_position H)) (sym same) many in
-          (ap commands_in adds, book, all ∙ ap (λ (h : Inn). h.limits.publications) (sym e), subst (λ (h : Inn). h.limits.stale_after ≤ changes_after new.seen (last_position new.seen)) (sym e) at)),
+          let at : old.house.limits.stale_after ≤ changes_after new.seen (last_position new.seen) =
+          subst (λ H. old.house.limits.stale_after ≤ changes_after H (last_position H)) (sym same) many in (
+            ap commands_in adds,
+            book,
+            all ∙ ap (λ (h : Inn). h.limits.publications) (sym e),
+            subst (λ (h : Inn). h.limits.stale_after ≤ changes_after new.seen (last_position new.seen)) (sym e) at,
+          )),
       (λ is a b same. absurd (cc)),
       (λ n is a b same. absurd (cc)),
       (λ r is. absurd (cc)),
     )
 
 -- an outcome after tries that made no command
-pub outcome_after : (command : Command) (old mid new : PassState) (outcome : Outcome) → MakesNone old mid → IsOutcome command mid new outcome → IsOutcome command old new outcome
+pub outcome_after : (command : Command) (old mid new : PassState) (outcome : Outcome) → MakesNone old mid → IsOutcome command mid new outcome →
+    IsOutcome command old new outcome
 outcome_after command old mid new Made none o = o ∙ ap (λ l. l ++ command ∷ []) none
 outcome_after command old mid new HistoryFull none o = (o.0 ∙ none, o.1)
 outcome_after command old mid new PublicationsFull none o = (o.0 ∙ none, o.1, o.2, o.3)
@@ -221,13 +284,15 @@ none_counted p (x ∷ xs) e = go (none_counted p xs) (p x) refl
     go on false t = ap (λ b. b || list_any p xs) t ∙ on (omega (arith, e, sum_by-cons (λ y. cond (p y) 1 0) x xs))
 
 -- so many changes stand after the last vector, where none was published since
-still_stale : (G rest : History) (many : ℕ) → list_any is_publish rest ≡ false → many ≤ changes_after G (last_position G) → many ≤ changes_after (G ++ rest) (last_position (G ++ rest))
+still_stale : (G rest : History) (many : ℕ) → list_any is_publish rest ≡ false → many ≤ changes_after G (last_position G) →
+    many ≤ changes_after (G ++ rest) (last_position (G ++ rest))
 still_stale G rest many none before = dite (dec_lt (changes_after (G ++ rest) (last_position (G ++ rest))) many)
     (λ fewer. absurd (let e : false ≡ true = sym none ∙ vector_between G rest many before fewer in cc))
     (λ no. omega (arith, no))
 
 -- a stop that holds of what was seen holds later
-pub stop_later : (h : Inn) (cs : List Command) (G H : History) (done : ℕ) (stop : Stop) → IsPrefix G H → IsLegal h H → IsStop h cs G done stop → IsStop h cs H done stop
+pub stop_later : (h : Inn) (cs : List Command) (G H : History) (done : ℕ) (stop : Stop) → IsPrefix G H → IsLegal h H → IsStop h cs G done stop →
+    IsStop h cs H done stop
 stop_later h cs G H done Finished begins legal s = s
 stop_later h cs G H done NoEntryLeft (rest, is) legal s =
     let more : commands G ≤ commands H = subst (λ K. commands G ≤ commands K) (sym is) (counts_on is_command G rest) in
@@ -238,19 +303,26 @@ stop_later h cs G H done NoVectorLeft (rest, is) legal s =
     let all : vectors H ≡ h.limits.publications = full_lasts h G H (rest, is) legal s.2 in
     let few = s.2 in
     let n = ap vectors is in
-    let none : count_by is_publish rest ≡ 0 = omega (arith, all, few, n, count_parts is_publish G rest) in
-    (s.0, s.1, all, subst (λ K. h.limits.stale_after ≤ changes_after K (last_position K)) (sym is) (still_stale G rest h.limits.stale_after (none_counted is_publish rest none) s.3))
+    let none : count_by is_publish rest ≡ 0 = omega (arith, all, few, n, count_parts is_publish G rest) in (
+      s.0,
+      s.1,
+      all,
+      subst (λ K. h.limits.stale_after ≤ changes_after K (last_position K)) (sym is)
+          (still_stale G rest h.limits.stale_after (none_counted is_publish rest none) s.3),
+    )
 stop_later h cs G H done NoMemory begins legal s = s
 
 -- one command more of the list
-pub made_more : (cs : List Command) (first : List Command) (done : ℕ) (command : Command) (old new : List Command) → done < length cs → command ≡ slice_index_or cs done command → old ≡ first ++ take done cs → new ≡ old ++ command ∷ []
+pub made_more : (cs : List Command) (first : List Command) (done : ℕ) (command : Command) (old new : List Command) → done < length cs →
+    command ≡ slice_index_or cs done command → old ≡ first ++ take done cs → new ≡ old ++ command ∷ []
     → new ≡ first ++ take (done + 1) cs
 made_more cs first done command old new lt is before more =
     more ∙ ap (λ l. l ++ command ∷ []) before ∙ append_assoc first (take done cs) (command ∷ [])
     ∙ ap (λ l. first ++ l) (ap (λ k. take done cs ++ k ∷ []) is ∙ sym (take_more cs done command lt))
 
 -- a session that has made its commands leaves
-pub session_done : (lead : ℕ) (cs : List Command) (pass mid left : PassState) (done : ℕ) (stop : Stop) → HasActed lead pass mid → commands_in mid.calls ≡ commands_in pass.calls ++ take done cs → IsStop mid.house cs mid.seen done stop
+pub session_done : (lead : ℕ) (cs : List Command) (pass mid left : PassState) (done : ℕ) (stop : Stop) → HasActed lead pass mid →
+    commands_in mid.calls ≡ commands_in pass.calls ++ take done cs → IsStop mid.house cs mid.seen done stop
     → IsCalled mid left Leave (Logged Done) → AddsCall mid left Leave (Logged Done) → IsSession lead cs pass left done stop
 session_done lead cs pass mid left done stop acted made stops c adds =
     let leave = call_acts lead mid left Leave (Logged Done) c (λ r e t. absurd (cc)) in
@@ -263,7 +335,8 @@ session_done lead cs pass mid left done stop acted made stops c adds =
       stops = subst (λ (h : Inn). IsStop h cs left.seen done stop) (sym leave.house) later;
     }
 
-pub attempt_after : (command : Command) (old mid new : PassState) (attempt : Attempt) → MakesNone old mid → IsAttempt command mid new attempt → IsAttempt command old new attempt
+pub attempt_after : (command : Command) (old mid new : PassState) (attempt : Attempt) → MakesNone old mid → IsAttempt command mid new attempt →
+    IsAttempt command old new attempt
 attempt_after command old mid new (Ended outcome) none a = outcome_after command old mid new outcome none a
 attempt_after command old mid new (Again true) none a = (a.0 ∙ none, a.1)
 attempt_after command old mid new (Again false) none a = a ∙ none
@@ -277,15 +350,18 @@ again_full command old new true a e = a.1
 again_full command old new false a e = absurd (cc)
 
 -- the span of a Group is one of the optimiser's program
-pub group_span : (house : Inn) (seen : History) (o : Optimising) (span : Span) (rooms amount : ℕ) → GoesWith house seen o → IsTrue (is_command_in_range house (Group span rooms amount))
+pub group_span : (house : Inn) (seen : History) (o : Optimising) (span : Span) (rooms amount : ℕ) → GoesWith house seen o →
+    IsTrue (is_command_in_range house (Group span rooms amount))
     → (span.from < span.to) × (span.to ≤ length o.solver.flow.program.rooms)
 group_span house seen o span rooms amount goes range =
     let parts = and_parts _ _ range in
     let two = and_parts _ _ parts.0 in
-    let nights : length o.solver.flow.program.rooms ≡ length house.rooms = ap (λ p. length p.rooms) goes.program ∙ length-map-range_with_len (units_left_at house (take o.position seen)) 0 (length house.rooms) in
+    let nights : length o.solver.flow.program.rooms ≡ length house.rooms = ap (λ p. length p.rooms) goes.program ∙
+    length-map-range_with_len (units_left_at house (take o.position seen)) 0 (length house.rooms) in
     (ltb-true _ _ two.0, subst (λ n. span.to ≤ n) (sym nights) (leb-true _ _ two.1))
 
-pub made_on : (cs : List Command) (first : List Command) (done : ℕ) (command : Command) (old new : PassState) (outcome : Outcome) → done < length cs → command ≡ slice_index_or cs done command → commands_in old.calls ≡ first ++ take done cs
+pub made_on : (cs : List Command) (first : List Command) (done : ℕ) (command : Command) (old new : PassState) (outcome : Outcome) → done < length cs →
+    command ≡ slice_index_or cs done command → commands_in old.calls ≡ first ++ take done cs
     → IsOutcome command old new outcome → outcome ≡ Made → commands_in new.calls ≡ first ++ take (done + 1) cs
 made_on cs first done command old new outcome lt is before o made =
     let here : IsOutcome command old new Made = subst (IsOutcome command old new) made o in

@@ -11,8 +11,10 @@ use Rattle.bp_optimise.specs.Rounds.{HasOffered}
 
 -- an optimiser at position 0 goes with whatever a pass of its house has seen
 abbrev pub NewGoes : Type 0
-NewGoes = (house : Inn) (seen : History) (solver : Solving) → solver.flow.program ≡ opening house → GoesWith house seen (record { solver = solver; position = 0 })
+NewGoes = (house : Inn) (seen : History) (solver : Solving) → solver.flow.program ≡ opening house →
+    GoesWith house seen (record { solver = solver; position = 0 })
 
 -- a round is superseded only where a vector stands at a place from the length at its first turn on
 abbrev pub SupersededIsFollowed : Type 0
-SupersededIsFollowed = (old new : PassState) (position least p changes : ℕ) → HasOffered old new position least (Superseded p changes) → IsFollowed new.seen position
+SupersededIsFollowed = (old new : PassState) (position least p changes : ℕ) → HasOffered old new position least (Superseded p changes) →
+    IsFollowed new.seen position

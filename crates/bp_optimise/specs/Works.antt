@@ -15,7 +15,8 @@ use Rattle.bp_optimise.specs.Acts.{HasActed, commands_in}
 abbrev pub HaveLeft : History → ℕ → Type 0
 HaveLeft H sessions = left_of H sessions ≡ sessions
 
--- where one of the sessions had not left at a turn, and so many changes stood after the last vector's position, a vector stands at a place from the turn's length on,
+-- where one of the sessions had not left at a turn, and so many changes stood after the last vector's position, a
+-- vector stands at a place from the turn's length on,
 -- or there are as many vectors as there may be
 abbrev pub IsSettledTurn : Inn → ℕ → ℕ → History → ℕ → Type 0
 IsSettledTurn house sessions lead H t =

@@ -3,6 +3,15 @@
 //! An optimiser is a solver that follows the history of a desk from position to position, and publishes its bid
 //! prices where enough has changed. A session makes its commands in order; a worker makes rounds beside the
 //! sessions until all of them have left. Rooms are whole rooms, units those of the house.
+//!
+//! A session makes its commands, and publishes where it comes upon stale prices.
+//!
+//! ```
+//! let mut steps: Steps<L> = Steps::new(blank);
+//! session(
+//!     rt, alloc, desk, pass, commands, optimiser, lead, unit, gate, &mut steps,
+//! )
+//! ```
 #![tactic(auto)]
 
 pub mod law;

@@ -12,7 +12,8 @@ use Rattle.bp_paths.specs.Paths.{AreDistancesTo}
 use Rattle.bp_paths.proofs.Hops.{one_of_two, arc_in_range}
 
 -- a residual step is that of one of the hops that leave its tail
-pub hop_of_step : (f : Flow) (s : Step) (x : ℕ) (hops : List Hop) → AreHopsAt f.program x hops → Admits f s 1 → tail f.program s ≡ x → (i : ℕ) × (i < length hops) × (s ≡ step_of f.program (hop_at hops i))
+pub hop_of_step : (f : Flow) (s : Step) (x : ℕ) (hops : List Hop) → AreHopsAt f.program x hops → Admits f s 1 → tail f.program s ≡ x →
+    (i : ℕ) × (i < length hops) × (s ≡ step_of f.program (hop_at hops i))
 hop_of_step f s x hops at a t =
     elim (one_of_two f s (arc_of f.program s) a refl) [
       | inl same ↦
@@ -27,9 +28,11 @@ hop_of_step f s x hops at a t =
 
 -- the hop at a place, and those before it, keep what the test asks
 abbrev pub GrowsBelow : Priced → List ℕ → ℕ → List Hop → ℕ → Type 0
-GrowsBelow p kept reach hops count = (i : ℕ) → i < count → Admits p.flow (step_of p.flow.program (hop_at hops i)) 1 → reach ≤ cost p (step_of p.flow.program (hop_at hops i)) + slice_index kept (head p.flow.program (step_of p.flow.program (hop_at hops i)))
+GrowsBelow p kept reach hops count = (i : ℕ) → i < count → Admits p.flow (step_of p.flow.program (hop_at hops i)) 1 →
+    reach ≤ cost p (step_of p.flow.program (hop_at hops i)) + slice_index kept (head p.flow.program (step_of p.flow.program (hop_at hops i)))
 
-pub grows_by_hops : (p : Priced) (kept : List ℕ) (v reach : ℕ) (hops : List Hop) → AreHopsAt p.flow.program v hops → reach ≡ slice_index kept v → GrowsBelow p kept reach hops (length hops) → GrowsFrom p kept v
+pub grows_by_hops : (p : Priced) (kept : List ℕ) (v reach : ℕ) (hops : List Hop) → AreHopsAt p.flow.program v hops → reach ≡ slice_index kept v →
+    GrowsBelow p kept reach hops (length hops) → GrowsFrom p kept v
 grows_by_hops p kept v reach hops at is below s a t =
     let hop = hop_of_step p.flow s v hops at a t in
     let P : Step → Type 0 = λ x. Admits p.flow x 1 in
@@ -38,7 +41,8 @@ grows_by_hops p kept v reach hops at is below s a t =
     omega (arith, here, is)
 
 -- along the hops that lead on, each node has a residual path of its length
-path_on : (p : Priced) (to : ℕ) (kept ranks : List ℕ) → IsWithinLimits p.flow.program → slice_index kept to ≡ 0 → ((v : ℕ) → v < nodes p → IsRightAt p to kept ranks v) → (most v : ℕ) → v < nodes p → slice_index ranks v ≤ most →
+path_on : (p : Priced) (to : ℕ) (kept ranks : List ℕ) → IsWithinLimits p.flow.program → slice_index kept to ≡ 0 →
+    ((v : ℕ) → v < nodes p → IsRightAt p to kept ranks v) → (most v : ℕ) → v < nodes p → slice_index ranks v ≤ most →
     (path : List Step) × IsPath p.flow v to path × (path_cost p.flow.program (slice_index p.potentials) path ≡ slice_index kept v)
 path_on p to kept ranks limits end right zero v v_in within =
     elim (cases_eq v to) [
@@ -57,14 +61,17 @@ path_on p to kept ranks limits end right (suc most) v v_in within =
     ]
 
 -- and no residual path is shorter
-none_shorter : (p : Priced) (to : ℕ) (kept ranks : List ℕ) → IsWithinLimits p.flow.program → slice_index kept to ≡ 0 → ((v : ℕ) → v < nodes p → IsRightAt p to kept ranks v) → (v : ℕ) (path : List Step) → v < nodes p → IsPath p.flow v to path → slice_index kept v ≤ path_cost p.flow.program (slice_index p.potentials) path
+none_shorter : (p : Priced) (to : ℕ) (kept ranks : List ℕ) → IsWithinLimits p.flow.program → slice_index kept to ≡ 0 →
+    ((v : ℕ) → v < nodes p → IsRightAt p to kept ranks v) → (v : ℕ) (path : List Step) → v < nodes p → IsPath p.flow v to path →
+    slice_index kept v ≤ path_cost p.flow.program (slice_index p.potentials) path
 none_shorter p to kept ranks limits end right v [] v_in is = let g = ap (slice_index kept) is in omega (arith, g, end)
 none_shorter p to kept ranks limits end right v (s ∷ ss) v_in is =
     let head_in = (ends_in_range p.flow s 1 limits is.1).1 in
     let rest = none_shorter p to kept ranks limits end right (head p.flow.program s) ss (omega (arith, head_in)) is.2 in
     omega (arith, (right v v_in).grows s is.1 is.0, rest)
 
-pub right_distances : (p : Priced) (to : ℕ) (kept ranks : List ℕ) → IsWithinLimits p.flow.program → length kept ≡ nodes p → slice_index kept to ≡ 0 → ((v : ℕ) → v < nodes p → IsRightAt p to kept ranks v) → AreDistancesTo p to kept
+pub right_distances : (p : Priced) (to : ℕ) (kept ranks : List ℕ) → IsWithinLimits p.flow.program → length kept ≡ nodes p → slice_index kept to ≡ 0 →
+    ((v : ℕ) → v < nodes p → IsRightAt p to kept ranks v) → AreDistancesTo p to kept
 right_distances p to kept ranks limits each end right =
     record {
       each = each;

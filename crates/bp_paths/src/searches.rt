@@ -1,7 +1,24 @@
-ghost use Rattle.std.specs.Prelude.{◌≡◌, ℕ, ◌+◌, ◌-◌, ◌*◌, ◌^◌, ◌<◌, ◌≤◌, [], length, replicate, slice_index, All, drop, false, IfOk};
+ghost use Rattle.std.specs.Prelude.{
+  ◌≡◌,
+  ℕ,
+  ◌+◌,
+  ◌-◌,
+  ◌*◌,
+  ◌^◌,
+  ◌<◌,
+  ◌≤◌,
+  [],
+  length,
+  replicate,
+  slice_index,
+  All,
+  drop,
+  false,
+  IfOk,
+};
 ghost use Rattle.bp_residual.specs.Network.{Priced, IsSlack, IsPriced, Admits, step_of, steps_of, arcs, nodes};
 ghost use Rattle.bp_paths.specs.Labels.{AreLabelsSoFar, IsTracedPath};
-ghost use Rattle.bp_paths.specs.Paths.{far, ScratchView, Serves, AreDistancesTo, IsFound, distance_of, least_room, IsReached};
+ghost use Rattle.bp_paths.specs.Paths.{far, ScratchView, Serves, AreDistancesTo, distance_of, least_room, IsReached};
 
 use crate::labels::{Labels, Notes};
 use crate::mended::mended;
@@ -64,7 +81,9 @@ impl Model for Scratch {
 
     ghost view = { λ a. record { distances = a.labels.kept.items; path = drop a.start a.slots.items; served = a.served } };
 
-    ghost invariant = { λ a. (length a.labels.rank.items ≡ length a.labels.kept.items) × (length a.labels.via.items ≡ length a.labels.kept.items) × (length a.slots.items ≡ length a.labels.kept.items) × (a.start ≤ length a.slots.items) };
+    ghost invariant = { λ a. (length a.labels.rank.items ≡ length a.labels.kept.items) ×
+        (length a.labels.via.items ≡ length a.labels.kept.items) ×
+        (length a.slots.items ≡ length a.labels.kept.items) × (a.start ≤ length a.slots.items) };
 }
 
 impl Scratch {
@@ -140,6 +159,15 @@ impl Scratch {
         self.ways.keep(&other.ways.hops, &other.ways.ranks);
     }
 
+    /// Keeps the ways of another scratch, and tells as many searches as it.
+    pub fn go_on_as(&mut self, other: &Scratch)
+        ensures distances { self.new.distances ≡ self.old.distances }
+        ensures served { self.new.served ≡ other.now.served }
+    {
+        self.keep_ways_of(other);
+        self.served = other.served;
+    }
+
     /// A rank of each node that falls along these hops: a hint.
     pub fn ranks(&self) -> &[u32] {
         &self.ways.ranks
@@ -178,14 +206,17 @@ fn bottleneck(flow: &Flow, path: &[Hop]) -> u64
 /// Writes the path to a node that was reached at the end of the slots; answers where it begins, and its room.
 fn path_to(flow: &Flow, to: u32, labels: &Labels, slots: &mut [Hop]) -> (usize, u64)
     requires priced { IsPriced flow.now }
-    requires labels { AreLabelsSoFar false flow.now labels.now.from labels.now.count labels.now.kept.items labels.now.rank.items labels.now.via.items }
+    requires labels { AreLabelsSoFar false flow.now labels.now.from labels.now.count labels.now.kept.items
+        labels.now.rank.items labels.now.via.items }
     requires to { to < nodes flow.now }
     requires near { slice_index labels.now.kept.items to < far }
     requires closed { 0 < slice_index labels.now.rank.items to }
     requires slots { length slots.old ≡ nodes flow.now }
     ensures start { result.0 ≤ length slots.new }
-    ensures path { IsTracedPath flow.now labels.now.kept.items labels.now.rank.items labels.now.from to (drop result.0 slots.new) }
-    ensures admits { All (λ h. Admits flow.now.flow (step_of flow.now.flow.program h) result.1) (drop result.0 slots.new) }
+    ensures path { IsTracedPath flow.now labels.now.kept.items labels.now.rank.items labels.now.from to
+        (drop result.0 slots.new) }
+    ensures admits { All (λ h. Admits flow.now.flow (step_of flow.now.flow.program h) result.1)
+        (drop result.0 slots.new) }
     ensures some { 1 ≤ result.1 }
     ensures least { result.1 ≡ least_room flow.now.flow (steps_of flow.now.flow.program (drop result.0 slots.new)) }
 {
@@ -193,42 +224,10 @@ fn path_to(flow: &Flow, to: u32, labels: &Labels, slots: &mut [Hop]) -> (usize, 
     (start, bottleneck(flow, &slots[start..]))
 }
 
-/// Finds a shortest residual path by reduced cost: Dijkstra's method under potentials, stopped at the target. In the
-/// worst case its time grows with the square of the nodes, and with the arcs. What an earlier search left in the
-/// scratch is gone.
-pub fn search<L: Ledger>(
-    flow: &Flow,
-    from: u32,
-    to: u32,
-    scratch: &mut Scratch,
-    steps: &mut Steps<L>,
-) -> Found
-    requires slack { IsSlack flow.now.flow (slice_index flow.now.potentials) }
-    requires from { from < nodes flow.now }
-    requires to { to < nodes flow.now }
-    requires size { length scratch.old.distances ≡ nodes flow.now }
-    ensures found { IsFound flow.now from to scratch.new result }
-    ensures size { length scratch.new.distances ≡ nodes flow.now }
-    ensures counted { steps.new ≡ steps.old + 1 }
-    ensures served { Serves scratch.old.served scratch.new.served 1 }
-{
-    steps.tick();
-    scratch.served = one_more(scratch.served);
-    let _nights = flow.nights();
-    scratch.labels.begin(flow, false, from);
-    scratch.labels.close_until(flow, false, Some(to));
-    scratch.start = scratch.slots.len();
-    if scratch.labels.kept[to as usize] == u128::MAX {
-        return Found::Unreached;
-    }
-    let (start, units) = path_to(flow, to, &scratch.labels, &mut scratch.slots);
-    scratch.start = start;
-    Found::Reached { units }
-}
-
-/// Finds a shortest residual path by the same method, and ends as soon as the target is closed: the distances are
-/// exact below the target's, and no others are less. Nodes that are as near as the target stay open, so where many
-/// are, as under equal rates, most of the network is never looked at.
+/// Finds a shortest residual path by reduced cost: Dijkstra's method under potentials, which ends as soon as the target
+/// is closed. The distances are exact below the target's, and no others are less. Nodes that are as near as the target
+/// stay open, so where many are, as under equal rates, most of the network is never looked at. In the worst case its
+/// time grows with the square of the nodes, and with the arcs. What an earlier search left in the scratch is gone.
 pub fn reach<L: Ledger>(
     flow: &Flow,
     from: u32,
@@ -285,6 +284,6 @@ pub fn search_to<L: Ledger>(flow: &Flow, to: u32, scratch: &mut Scratch, steps: 
         return;
     }
     scratch.labels.begin(flow, true, to);
-    scratch.labels.close_until(flow, true, None);
+    scratch.labels.close_all(flow, true);
     scratch.ways.keep(&scratch.labels.via, &scratch.labels.rank);
 }

@@ -1,5 +1,32 @@
 -- A list of hotels as a kind of text: its rows are the numbers of the first two lines, the names of each hotel, and none.
-use Rattle.std.proofs.Common.{◌≡◌, ℕ, zero, suc, ◌+◌, ◌-◌, ◌≤◌, refl, ap, sym, subst, ◌∙◌, arith, Bool, true, false, List, [], ◌∷◌, ◌++◌, length, map, All, slice_index, append_assoc, length-append}
+use Rattle.std.proofs.Common.{
+  ◌≡◌,
+  ℕ,
+  zero,
+  suc,
+  ◌+◌,
+  ◌-◌,
+  ◌≤◌,
+  refl,
+  ap,
+  sym,
+  subst,
+  ◌∙◌,
+  arith,
+  Bool,
+  true,
+  false,
+  List,
+  [],
+  ◌∷◌,
+  ◌++◌,
+  length,
+  map,
+  All,
+  slice_index,
+  append_assoc,
+  length-append,
+}
 use Rattle.std.specs.Prelude.{codes, IsTrue}
 use Rattle.std.specs.List.{list_all}
 use Rattle.std.proofs.Math.Bool.{Bool-set}
@@ -120,7 +147,8 @@ list_of (a ∷ b ∷ done) = listed (files_of done)
 
 -- hotels whose names are names are listed
 
-listed_one : (hotels : List FiveNames) (b : Bool) (e : list_all is_named hotels ≡ b) (is : list_all is_named hotels ≡ true) → b ≡ true → listed_if hotels b e ≡ (hotels, is)
+listed_one : (hotels : List FiveNames) (b : Bool) (e : list_all is_named hotels ≡ b) (is : list_all is_named hotels ≡ true) → b ≡ true →
+    listed_if hotels b e ≡ (hotels, is)
 listed_one hotels true e is t = ap (λ p. (hotels, p)) (Bool-set (list_all is_named hotels) true e is)
 listed_one hotels false e is t = absurd (cc)
 
@@ -214,7 +242,8 @@ hotels_spelt a b done [] = refl
 hotels_spelt a b done (n ∷ hotels) = ap (λ ls. names_line n ∷ ls) (hotels_spelt a b (done ++ Files n ∷ []) hotels)
 
 -- with so many hotels to come, and more
-pub hotels_formed : (a b : Row) (more : ℕ) (done : Rows) (hotels : List FiveNames) → (count_of b + 1) - length done ≡ suc (length hotels + more) → list_all is_named hotels ≡ true
+pub hotels_formed : (a b : Row) (more : ℕ) (done : Rows) (hotels : List FiveNames) → (count_of b + 1) - length done ≡ suc (length hotels + more) →
+    list_all is_named hotels ≡ true
     → EachRow Form (a ∷ b ∷ done) (map Files hotels)
 hotels_formed a b more done [] left are = tt
 hotels_formed a b more done (n ∷ hotels) left are =
@@ -237,7 +266,8 @@ tail_is_fine a b done [] = tt
 tail_is_fine a b done (r ∷ rows) = (tt, tail_is_fine a b (done ++ r ∷ []) rows)
 
 spelt : (v : Listed) → list_lines v ≡ row_lines line_at [] (rows_of v)
-spelt v = let first = Numbers [] in let second = Numbers (length v.0 ∷ []) in ap (λ ls. codes "portfolio 1" ∷ line_of (codes "hotels") (length v.0 ∷ []) ∷ ls) (sym (rest_spelt first second [] v.0))
+spelt v = let first = Numbers [] in let second = Numbers (length v.0 ∷ []) in
+    ap (λ ls. codes "portfolio 1" ∷ line_of (codes "hotels") (length v.0 ∷ []) ∷ ls) (sym (rest_spelt first second [] v.0))
 
 formed : (v : Listed) → EachRow Form [] (rows_of v)
 formed v = (refl, (refl, rest_formed (Numbers []) (Numbers (length v.0 ∷ [])) [] v.0 (omega arith) v.1))
@@ -267,10 +297,12 @@ record AreHotels (b : Row) (done rest : Rows) : Type 0 where
   are : list_all is_named hotels ≡ true
   counted : length done + length hotels ≡ count_of b
 
-rows_are : (a b : Row) (done rest : Rows) → EachRow Form (a ∷ b ∷ done) rest → length done ≤ count_of b → (count_of b + 1) - length (done ++ rest) ≡ 0 → AreHotels b done rest
+rows_are : (a b : Row) (done rest : Rows) → EachRow Form (a ∷ b ∷ done) rest → length done ≤ count_of b → (count_of b + 1) - length (done ++ rest) ≡ 0 →
+    AreHotels b done rest
 rows_are a b done [] all few none = absurd (omega (arith, length-append done [], few, none))
 rows_are a b done (r ∷ rest) all few none =
-    go ((count_of b + 1) - length done) refl all.0 (λ more. rows_are a b (done ++ r ∷ []) rest all.1 more (ap (λ xs. (count_of b + 1) - length xs) (append_assoc done (r ∷ []) rest) ∙ none))
+    go ((count_of b + 1) - length done) refl all.0
+    (λ more. rows_are a b (done ++ r ∷ []) rest all.1 more (ap (λ xs. (count_of b + 1) - length xs) (append_assoc done (r ∷ []) rest) ∙ none))
   where
     last : (r : Row) → HasCount 0 r → r ≡ Numbers []
     last (Numbers ns) form = ap Numbers (no_numbers ns form)
@@ -287,7 +319,8 @@ rows_are a b done (r ∷ rest) all few none =
     names_of (Numbers ns) form = absurd form
     names_of (Files n) form = (n, refl, form)
 
-    go : (k : ℕ) → (count_of b + 1) - length done ≡ k → Form (a ∷ b ∷ done) r → (length (done ++ r ∷ []) ≤ count_of b → AreHotels b (done ++ r ∷ []) rest) → AreHotels b done (r ∷ rest)
+    go : (k : ℕ) → (count_of b + 1) - length done ≡ k → Form (a ∷ b ∷ done) r → (length (done ++ r ∷ []) ≤ count_of b → AreHotels b (done ++ r ∷ []) rest) →
+        AreHotels b done (r ∷ rest)
     go zero is form after = absurd (omega (arith, few, is))
     go (suc zero) is form after =
         let P : ℕ → Type 0 = λ k. tail_form k r in
@@ -331,7 +364,8 @@ is_list (a ∷ b ∷ done) all none =
     record {
       hotels = rest.hotels;
       are = rest.are;
-      rows_are = ap (λ x. x ∷ b ∷ done) first ∙ ap (λ x. Numbers [] ∷ x ∷ done) (second ∙ ap (λ k. Numbers (k ∷ [])) count) ∙ ap (λ xs. Numbers [] ∷ Numbers (length rest.hotels ∷ []) ∷ xs) rest.rows;
+      rows_are = ap (λ x. x ∷ b ∷ done) first ∙ ap (λ x. Numbers [] ∷ x ∷ done) (second ∙ ap (λ k. Numbers (k ∷ [])) count) ∙
+          ap (λ xs. Numbers [] ∷ Numbers (length rest.hotels ∷ []) ∷ xs) rest.rows;
       value_is = ap (λ xs. listed (files_of xs)) rest.rows ∙ ap listed (files_again rest.hotels) ∙ listed_same rest.hotels rest.are;
     }
 

@@ -1,22 +1,25 @@
 -- Names of files and the lines that they stand on: no byte of a name is a space or a line's end, so the names of a line can
 -- be told.
-use Rattle.std.proofs.Common.{◌≡◌, ◌≢◌, ◌⊎◌, ℕ, zero, suc, ◌<◌, ◌≤◌, ◌==◌, ◌&&◌, refl, ap, sym, subst, ◌∙◌, arith, Bool, true, false, List, [], ◌∷◌, ◌++◌, length, All, get_or, inl, inr}
+use Rattle.std.proofs.Common.{◌≡◌, ◌≢◌, ℕ, zero, suc, ◌<◌, ◌≤◌, ◌==◌, ◌&&◌, ap, sym, subst, ◌∙◌, arith, true, false, List, [], ◌∷◌, ◌++◌, length, All, get_or}
 use Rattle.std.specs.Prelude.{not, nat_le, IsTrue}
 use Rattle.std.specs.List.{list_all}
 use Rattle.std.specs.Str.{IsAscii, IsUtf8}
-use Rattle.std.proofs.lemmas.Bool.{and_parts, and_from, cases_Bool, cond-true, cond-false, eqb-true, leb-true}
+use Rattle.std.proofs.lemmas.Bool.{and_parts, and_from, leb-true}
 use Rattle.std.proofs.lemmas.List.Elements.{All-append}
 use Rattle.std.proofs.lemmas.List.Sums.{AllPass-from_list_all}
 use Rattle.std.proofs.lemmas.Str.{IsUtf8-from_ascii}
+use Rattle.bp_types.specs.declared.limits.TheConstants.{MOST_NAME}
 use Rattle.bp_text.specs.Lines.{Line, HasNoEnd}
-use Rattle.bp_text.specs.Words.{Word, HasNoSpace, words_behind, joined, split, in_front}
+use Rattle.bp_text.specs.Words.{Word, HasNoSpace, words_behind, split}
 use Rattle.bp_text.proofs.WordLemmas.{split_joined, joined_injective, word_in_front}
 use Rattle.bp_portfolio.specs.Lists.{FiveNames, is_name_byte, is_name, is_named, other_names, names_line, IsNamesLine}
 
 -- a word that is a name has such bytes
 name_bytes : (w : Word) → IsTrue (is_name w) → IsTrue (list_all is_name_byte w)
 name_bytes [] is = absurd (cc)
-name_bytes (b ∷ bs) is = (and_parts (not (b == 45)) (list_all is_name_byte (b ∷ bs)) (and_parts (nat_le (length (b ∷ bs)) 200) (not (b == 45) && list_all is_name_byte (b ∷ bs)) is).1).1
+name_bytes (b ∷ bs) is =
+    (and_parts (not (b == 45)) (list_all is_name_byte (b ∷ bs))
+    (and_parts (nat_le (length (b ∷ bs)) MOST_NAME) (not (b == 45) && list_all is_name_byte (b ∷ bs)) is).1).1
 
 byte_within : (b : ℕ) → IsTrue (is_name_byte b) → (33 ≤ b) × (b ≤ 126)
 byte_within b is = let p = and_parts (nat_le 33 b) (nat_le b 126) is in (leb-true 33 b p.0, leb-true b 126 p.1)
@@ -114,41 +117,3 @@ names_injective n m is also e =
 -- a line with other words is none of names
 pub not_names : (line : Line) (words : List Word) → split line ≡ words → ((n : FiveNames) → Five n → words ≡ n.hotel ∷ other_names n → ⊥) → IsNamesLine line → ⊥
 not_names line words are other (n, is, e) = other n (five n is) (sym are ∙ ap split e ∙ split_names n is)
-
--- a line is its words, joined
-
-first_word : (w v : Word) (ws vs : List Word) → w ∷ ws ≡ v ∷ vs → (w ≡ v) × (ws ≡ vs)
-first_word w v ws vs e = let h : w ≡ v = cc in let t : ws ≡ vs = cc in (h, t)
-
-in_front_back : (b : ℕ) (bs : List ℕ) (ws : List Word) (w : Word) (vs : List Word) → ((v : Word) (us : List Word) → ws ≡ v ∷ us → bs ≡ joined v us) → (ws ≡ [] → ⊥) → in_front b ws ≡ w ∷ vs → b ∷ bs ≡ joined w vs
-in_front_back b bs [] w vs back some e = absurd (some refl)
-in_front_back b bs (v ∷ us) w vs back some e =
-    let parts = first_word (b ∷ v) w us vs e in
-    ap (λ x. b ∷ x) (back v us refl) ∙ ap (λ x. joined x us) parts.0 ∙ ap (joined w) parts.1
-
-in_front_is_some : (b : ℕ) (ws : List Word) → in_front b ws ≡ [] → ⊥
-in_front_is_some b [] e = cc
-in_front_is_some b (w ∷ ws) e = cc
-
-some_word : (bs : List ℕ) → split bs ≡ [] → ⊥
-some_word [] e = cc
-some_word (b ∷ bs) e = elim (cases_Bool (b == 32)) [
-  | inl space ↦ let f : [] ∷ split bs ≡ [] = sym (cond-true (b == 32) ([] ∷ split bs) (in_front b (split bs)) space) ∙ e in cc
-  | inr other ↦ in_front_is_some b (split bs) (sym (cond-false (b == 32) ([] ∷ split bs) (in_front b (split bs)) other) ∙ e)
-]
-
-space_back : (bs : List ℕ) (ws : List Word) → ((v : Word) (us : List Word) → split bs ≡ v ∷ us → bs ≡ joined v us) → split bs ≡ ws → 32 ∷ bs ≡ words_behind ws
-space_back bs [] back e = absurd (some_word bs e)
-space_back bs (v ∷ us) back e = ap (λ x. 32 ∷ x) (back v us e)
-
-pub split_back : (line : Line) (w : Word) (ws : List Word) → split line ≡ w ∷ ws → line ≡ joined w ws
-split_back [] w ws e = let parts = first_word [] w [] ws e in ap (λ v. joined v []) parts.0 ∙ ap (joined w) parts.1
-split_back (b ∷ bs) w ws e = elim (cases_Bool (b == 32)) [
-  | inl space ↦
-      let f : [] ∷ split bs ≡ w ∷ ws = sym (cond-true (b == 32) ([] ∷ split bs) (in_front b (split bs)) space) ∙ e in
-      let parts = first_word [] w (split bs) ws f in
-      ap (λ k. k ∷ bs) (eqb-true b 32 space) ∙ space_back bs ws (split_back bs) parts.1 ∙ ap (λ v. v ++ words_behind ws) parts.0
-  | inr other ↦
-      let f : in_front b (split bs) ≡ w ∷ ws = sym (cond-false (b == 32) ([] ∷ split bs) (in_front b (split bs)) other) ∙ e in
-      in_front_back b bs (split bs) w ws (split_back bs) (some_word bs) f
-]

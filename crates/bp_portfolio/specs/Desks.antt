@@ -1,39 +1,20 @@
--- What is said of the closed desk of one hotel.
-use Rattle.std.specs.Prelude.{◌≡◌, ℕ, ◌+◌, ◌*◌, ◌/◌, ◌≤◌, true, false, List, [], ◌∷◌, length, All}
-use Rattle.bp_types.specs.declared.limits.TheConstants.{MOST_SESSIONS}
-use Rattle.bp_types.specs.House.{Inn}
-use Rattle.bp_types.specs.declared.command.Command.{Command}
-use Rattle.bp_core.specs.Lines.{vectors}
+-- The desks of hotels beside one another: what they may run, and what is said of all of them. What is said of one is
+-- `IsRightRun` of the crate `bp_desk_run`.
+use Rattle.std.specs.Prelude.{ℕ, ◌+◌, ◌*◌, ◌≤◌, List, [], ◌∷◌, length, All}
+use Rattle.bp_types.specs.declared.limits.TheConstants.{CALLERS, MOST_SESSIONS}
 use Rattle.bp_optimise.specs.Sessions.{AreInRange}
-use Rattle.bp_desk_run.specs.DeskRun.{IsDeskRun, IsComplete, IsClosed, IsCut, HasRoomFor, all_commands, lead_of}
+use Rattle.bp_desk_run.specs.DeskRun.{HasRoomFor, all_commands}
+use Rattle.bp_desk_run.specs.RightRun.{Staged, IsRightRun}
 use Rattle.bp_desk_run.specs.declared.callers.Ran.{Ran}
-
--- a house, and what each session asks of its desk
-pub record Staged : Type 0 where
-  pub house : Inn
-  pub scripts : List (List Command)
 
 -- there are not too many sessions, and what they ask is in range of the house
 pub record CanRun (g : Staged) : Type 0 where
   pub few : length g.scripts ≤ MOST_SESSIONS
   pub range : All (AreInRange g.house) g.scripts
 
--- whatever the interleaving was, what is said of the closed desk, with H its one history
-pub record IsRightRun (workers : ℕ) (g : Staged) (ran : Ran) : Type 0 where
-  -- H is a desk run of the house and the script that were read
-  pub run : IsDeskRun g.house g.scripts workers ran.book.history
-  -- status 0: every session made all of its commands, and no change stands after the last vector's position
-  pub whole : ran.whole ≡ true → IsComplete g.scripts ran.book.history × IsClosed ran.book.history
-  -- status 7: the house allowed no entry more, or no vector more
-  pub cut : ran.whole ≡ false → IsCut g.house g.scripts ran.book.history
-  -- two vectors at most, and one more for every `lead` commands of the script
-  pub few_vectors : vectors ran.book.history ≤ 2 + all_commands g.scripts / lead_of g.house
-  -- a house with room for the script is not cut
-  pub room : HasRoomFor g.house (all_commands g.scripts) → ran.whole ≡ true
-
 -- the number with which a caller of the hotel with this index, from 0, arrives at the gate
 abbrev pub number_at_gate : ℕ → ℕ → ℕ
-number_at_gate hotel caller = 64 * hotel + caller
+number_at_gate hotel caller = CALLERS * hotel + caller
 
 -- each hotel's run is right for its own house, script and workers, and there is one for each
 abbrev pub AreRightRuns : ℕ → List Staged → List Ran → Type 0

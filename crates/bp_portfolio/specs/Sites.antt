@@ -2,7 +2,7 @@
 use Rattle.std.specs.Prelude.{◌≡◌, ℕ, ◌≤◌, List, [], ◌∷◌, Some, IsSome, IsSomeAnd, IfOk, Ok}
 use Rattle.bp_types.specs.declared.limits.TheConstants.{MOST_WORKERS}
 use Rattle.bp_desk_run.specs.declared.callers.Ran.{Ran}
-use Rattle.bp_portfolio.specs.Desks.{Staged, IsRightRun}
+use Rattle.bp_desk_run.specs.RightRun.{Staged, IsRightRun}
 use Rattle.bp_portfolio.specs.declared.crew.DeskSite.{DeskSite}
 
 -- there is something to run, with no more workers than there may be

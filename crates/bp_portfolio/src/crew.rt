@@ -1,7 +1,8 @@
 //! The desks of several hotels, from what each is to run to their closed books.
 ghost use Rattle.std.specs.Prelude.{◌≡◌, ℕ, ◌<◌, ◌≤◌, IfOk, Some, None, length, slice_index_or, All};
 ghost use Rattle.bp_types.specs.declared.limits.TheConstants.{MOST_HOTELS, MOST_WORKERS};
-ghost use Rattle.bp_portfolio.specs.Desks.{AreRightRuns, Staged as StagedDesk};
+ghost use Rattle.bp_desk_run.specs.RightRun.{Staged as StagedDesk};
+ghost use Rattle.bp_portfolio.specs.Desks.{AreRightRuns};
 ghost use Rattle.bp_portfolio.specs.Sites.{AreRunsOf, AreToRun, HasEnded, IsOver, IsToRun};
 ghost use Rattle.bp_portfolio.specs.declared.crew.DeskSite.{DeskSite as DeskSiteValue};
 
@@ -64,7 +65,8 @@ fn run_sites<R: Wait + Threads + Sync, G: Gate>(
 )
     requires { All IsToRun sites.old }
     ensures count { length sites.new ≡ length sites.old }
-    ensures each { (i : ℕ) (d : DeskSiteValue) (g : StagedDesk) → i < length sites.old → (slice_index_or sites.old i d).staged ≡ Some g
+    ensures each { (i : ℕ) (d : DeskSiteValue) (g : StagedDesk) → i < length sites.old →
+        (slice_index_or sites.old i d).staged ≡ Some g
         → HasEnded (slice_index_or sites.old i d).workers g (slice_index_or sites.new i d) }
 {
     let threads = sites.len();
@@ -100,8 +102,9 @@ fn runs_of(alloc: Global, sites: Vec<DeskSite>) -> Result<Vec<Ran>, Memory>
 
 /// Runs the desks of several hotels beside one another, each with so many optimisers, to their closed books.
 ///
-/// Each hotel's book is right for its own house, sessions and workers; nothing of another hotel stands in what is said of
-/// it. A caller of a hotel arrives at the gate with its number and 64 times the hotel's index, from 0, more.
+/// Each hotel's book is right for its own house, sessions and workers; nothing of another hotel stands in what is said
+/// of
+/// it. A caller of a hotel arrives at the gate with its number and `CALLERS` times the hotel's index, from 0, more.
 pub fn run_desks<R: Wait + Threads + Sync, G: Gate>(
     rt: &R,
     alloc: Global,

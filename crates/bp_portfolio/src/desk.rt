@@ -1,7 +1,8 @@
 //! The desk of one hotel among several.
 ghost use Rattle.std.specs.Prelude.{◌≡◌, ◌≤◌, IfOk};
 ghost use Rattle.bp_types.specs.declared.limits.TheConstants.{MOST_SESSIONS, MOST_WORKERS};
-ghost use Rattle.bp_portfolio.specs.Desks.{CanRun, IsRightRun};
+ghost use Rattle.bp_desk_run.specs.RightRun.{IsRightRun};
+ghost use Rattle.bp_portfolio.specs.Desks.{CanRun};
 
 use crate::gate::HotelGate;
 use bp_desk_run::{Ran, run_desk};
@@ -23,7 +24,8 @@ pub struct Staged {
 }
 
 impl Model for Staged {
-    ghost use Rattle.bp_portfolio.specs.Desks.{CanRun, Staged as StagedDesk};
+    ghost use Rattle.bp_desk_run.specs.RightRun.{Staged as StagedDesk};
+    ghost use Rattle.bp_portfolio.specs.Desks.{CanRun};
 
     ghost Value = { StagedDesk };
 

@@ -1,6 +1,6 @@
 //! The gate of one hotel among several.
 ghost use Rattle.std.specs.Prelude.{◌≡◌, ◌<◌};
-ghost use Rattle.bp_types.specs.declared.limits.TheConstants.{MOST_HOTELS};
+ghost use Rattle.bp_types.specs.declared.limits.TheConstants.{CALLERS, MOST_HOTELS};
 ghost use Rattle.bp_portfolio.specs.Desks.{number_at_gate};
 
 use bp_edges::Gate;
@@ -16,7 +16,7 @@ pub struct HotelGate<'a, G> {
 
 /// The number with which a caller of a hotel arrives at the gate of all.
 pub fn number_of(hotel: u32, caller: u32) -> u32
-    ensures { hotel < MOST_HOTELS → caller < 64 → result ≡ number_at_gate hotel caller }
+    ensures { hotel < MOST_HOTELS → caller < CALLERS → result ≡ number_at_gate hotel caller }
 {
     hotel.wrapping_mul(CALLERS as u32).wrapping_add(caller)
 }

@@ -3,7 +3,18 @@ ghost use Rattle.std.specs.Prelude.{◌≡◌, IsTrue, MatchResult, IfOk, MatchO
 ghost use Rattle.std.specs.List.{list_all};
 ghost use Rattle.bp_text.specs.Lines.{Given};
 ghost use Rattle.bp_text.specs.Reading.{IsReading, GivesLines, seen_as};
-ghost use Rattle.bp_portfolio.specs.Lists.{AreNamesRead, IsListText, IsManyHotels, IsNamesLine, IsPortfolio, head_lines, hotel_lines, is_named, list_lines, names_line};
+ghost use Rattle.bp_portfolio.specs.Lists.{
+  AreNamesRead,
+  IsListText,
+  IsManyHotels,
+  IsNamesLine,
+  IsPortfolio,
+  head_lines,
+  hotel_lines,
+  is_named,
+  list_lines,
+  names_line,
+};
 
 use crate::names::{Names, names_on};
 use bp_text::{Lines, TextError, at_end, number_line, word_line};
@@ -12,7 +23,8 @@ use std::alloc::{AllocError, Global};
 
 /// The names on a line, where it has five and no more.
 fn line_names(alloc: Global, line: &[u8]) -> Result<Option<Names>, AllocError>
-    ensures { IfOk result (λ o. MatchOption o (¬ IsNamesLine line.now) (λ n. IsTrue (is_named n) × (line.now ≡ names_line n))) }
+    ensures { IfOk result (λ o. MatchOption o (¬ IsNamesLine line.now) (λ n. IsTrue (is_named n) ×
+        (line.now ≡ names_line n))) }
 {
     match names_on(line) {
         Some(names) => Ok(Some(Names::copied(alloc, names)?)),
@@ -49,8 +61,10 @@ fn read_head(lines: &mut Lines<'_>) -> Result<u64, TextError>
 fn read_hotels(alloc: Global, lines: &mut Lines<'_>, count: u64) -> Result<Vec<Names>, TextError>
     requires { IsManyHotels count }
     ensures { MatchResult result
-        (λ hs. (length hs.items ≡ count) × IsTrue (list_all is_named hs.items) × GivesLines lines.old lines.new (map names_line hs.items) lines.new.rest)
-        (λ e. (start : Given) → GivesLines start lines.old (head_lines count) lines.old.rest → IsReading list_lines IsPortfolio start lines.new (Err e)) }
+        (λ hs. (length hs.items ≡ count) × IsTrue (list_all is_named hs.items) ×
+        GivesLines lines.old lines.new (map names_line hs.items) lines.new.rest)
+        (λ e. (start : Given) → GivesLines start lines.old (head_lines count) lines.old.rest →
+        IsReading list_lines IsPortfolio start lines.new (Err e)) }
 {
     let mut hotels = Vec::new(alloc);
     for _ in 0..count {
@@ -63,7 +77,8 @@ fn read_hotels(alloc: Global, lines: &mut Lines<'_>, count: u64) -> Result<Vec<N
 /// Reads the lines of a list.
 fn read_lines(alloc: Global, lines: &mut Lines<'_>) -> Result<Vec<Names>, TextError>
     ensures { MatchResult result
-        (λ hs. IsManyHotels (length hs.items) × IsTrue (list_all is_named hs.items) × GivesLines lines.old lines.new (head_lines (length hs.items) ++ hotel_lines hs.items) lines.new.rest)
+        (λ hs. IsManyHotels (length hs.items) × IsTrue (list_all is_named hs.items) ×
+        GivesLines lines.old lines.new (head_lines (length hs.items) ++ hotel_lines hs.items) lines.new.rest)
         (λ e. IsReading list_lines IsPortfolio lines.old lines.new (Err e)) }
 {
     let count = read_head(lines)?;

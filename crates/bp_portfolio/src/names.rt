@@ -111,7 +111,8 @@ fn file_name<'a>(words: &mut Words<'a>) -> Option<&'a str>
 
 /// The five names of a line, where it has just these.
 pub fn names_on<'a>(line: &'a [u8]) -> Option<NamesOf<'a>>
-    ensures { MatchOption result (¬ IsNamesLine line.entry.now) (λ n. IsTrue (is_named (named n)) × (line.entry.now ≡ names_line (named n))) }
+    ensures { MatchOption result (¬ IsNamesLine line.entry.now) (λ n. IsTrue (is_named (named n)) ×
+        (line.entry.now ≡ names_line (named n))) }
 {
     let mut words = Words::new(line);
     let hotel = file_name(&mut words)?;

@@ -27,4 +27,8 @@ problem_fits law p is =
       unit = refl;
     })
     (record { few = is.limits.stays; spans = is.limits.spans; rates = is.limits.rates; forecasts = is.limits.forecasts })
-    (record { one_each = length-replicate (length p.rooms) 0; fit = λ n below. (let none = get_or-replicate {A = ℕ} (length p.rooms) n 0 0 below in omega (arith, none)) })
+    (record {
+      one_each = length-replicate (length p.rooms) 0;
+      fit =
+          λ n below. (let none = get_or-replicate {A = ℕ} (length p.rooms) n 0 0 below in omega (arith, none));
+    })

@@ -42,9 +42,11 @@ book_range h stay Enrol is range = absurd (cc)
 book_range h stay Leave is range = absurd (cc)
 
 -- a Book at a place is by one of the callers
-pub book_caller : (h : Inn) (H : History) (n stay : ℕ) → IsLegal h H → n < length H → booked_stay (line_at H n).entry.act ≡ Some stay → (line_at H n).entry.caller < CALLERS
+pub book_caller : (h : Inn) (H : History) (n stay : ℕ) → IsLegal h H → n < length H → booked_stay (line_at H n).entry.act ≡ Some stay →
+    (line_at H n).entry.caller < CALLERS
 book_caller h H n stay legal within is =
-    acts_small h H n (line_at H n).entry.caller legal within (book_may (take n H) (line_at H n).entry.caller stay (line_at H n).entry.act is (legal.lines n within).caller)
+    acts_small h H n (line_at H n).entry.caller legal within
+    (book_may (take n H) (line_at H n).entry.caller stay (line_at H n).entry.act is (legal.lines n within).caller)
 
 -- and of a stay of the house
 pub book_stay : (h : Inn) (H : History) (n stay : ℕ) → IsLegal h H → n < length H → booked_stay (line_at H n).entry.act ≡ Some stay → stay < length h.stays

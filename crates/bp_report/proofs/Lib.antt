@@ -6,3 +6,5 @@ pub mod EntryLemmas
 pub mod RowLemmas
 -- The text of the tables is a report.
 pub mod ReportLemmas
+-- A history has one report.
+pub mod Unique

@@ -20,12 +20,14 @@ rows-more row i =
 
 rows-rest : (row : ℕ → Line) (i n : ℕ) → i ≤ n → rows_text row n ≡ rows_text row i ++ text_of (drop i (map row (range_with_len 0 n)))
 rows-rest row i n few =
-    ap text_of (sym (take-append-drop i (map row (range_with_len 0 n)))) ∙ text_of-append (take i (map row (range_with_len 0 n))) (drop i (map row (range_with_len 0 n)))
+    ap text_of (sym (take-append-drop i (map row (range_with_len 0 n)))) ∙
+    text_of-append (take i (map row (range_with_len 0 n))) (drop i (map row (range_with_len 0 n)))
     ∙ ap (λ t. text_of t ++ text_of (drop i (map row (range_with_len 0 n)))) (take-map-range_with_len row 0 n i few)
 
 -- a row more behind a draft
 pub row_drafted : {before middle now : Option (List ℕ)} (old draft new : List ℕ) (row : ℕ → Line) (i : ℕ)
-    → IsDrafted before middle draft (old ++ rows_text row i) → IsDrafted middle now new (draft ++ (row i ++ 10 ∷ [])) → IsDrafted before now new (old ++ rows_text row (i + 1))
+    → IsDrafted before middle draft (old ++ rows_text row i) → IsDrafted middle now new (draft ++ (row i ++ 10 ∷ [])) →
+    IsDrafted before now new (old ++ rows_text row (i + 1))
 row_drafted {before} {middle} {now} old draft new row i so_far more =
     let P : List ℕ → Type 0 = λ t. IsDrafted before now new t in
     subst P (append_assoc old (rows_text row i) (row i ++ 10 ∷ []) ∙ ap (λ t. old ++ t) (sym (rows-more row i)))
@@ -33,7 +35,8 @@ row_drafted {before} {middle} {now} old draft new row i so_far more =
 
 -- a row that was refused
 pub row_refused : {E : Type 0} (before middle now : Option (List ℕ)) (old draft new : List ℕ) (row : ℕ → Line) (i n : ℕ) (result : Result (Unit {0}) E)
-    → i < n → IsDrafted before middle draft (old ++ rows_text row i) → AppendedPrefix middle now (draft ++ (row i ++ 10 ∷ [])) → IsErr result → Drafts before now old new (rows_text row n) result
+    → i < n → IsDrafted before middle draft (old ++ rows_text row i) → AppendedPrefix middle now (draft ++ (row i ++ 10 ∷ [])) → IsErr result →
+    Drafts before now old new (rows_text row n) result
 row_refused before middle now old draft new row i n result within so_far part refused =
     let P : List ℕ → Type 0 = λ t. AppendedPrefix before now t in
     let front = append_assoc old (rows_text row i) (row i ++ 10 ∷ []) ∙ ap (λ t. old ++ t) (sym (rows-more row i)) in

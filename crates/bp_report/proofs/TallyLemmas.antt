@@ -1,5 +1,44 @@
 -- How the tallies of stays and the counts of callers grow with one place more.
-use Rattle.std.proofs.Common.{◌≡◌, ◌≢◌, ℕ, zero, suc, ◌+◌, ◌≤◌, ◌<◌, ◌==◌, Bool, true, false, cond, ◌&&◌, List, take, length, count_by, get_or, set, Option, Some, None, is_some, refl, sym, ap, subst, ◌∙◌, arith, add-one, zero-add, length-take, replicate, inl, inr, get_or-set_same, get_or-set_other}
+use Rattle.std.proofs.Common.{
+  ◌≡◌,
+  ◌≢◌,
+  ℕ,
+  zero,
+  suc,
+  ◌+◌,
+  ◌≤◌,
+  ◌<◌,
+  ◌==◌,
+  Bool,
+  true,
+  false,
+  cond,
+  ◌&&◌,
+  List,
+  take,
+  length,
+  count_by,
+  get_or,
+  set,
+  Option,
+  Some,
+  None,
+  is_some,
+  refl,
+  sym,
+  ap,
+  subst,
+  ◌∙◌,
+  arith,
+  add-one,
+  zero-add,
+  length-take,
+  replicate,
+  inl,
+  inr,
+  get_or-set_same,
+  get_or-set_other,
+}
 use Rattle.std.specs.Prelude.{slice_set, slice_get, unwrap_or}
 use Rattle.std.specs.Option.{option_map}
 use Rattle.std.proofs.Math.ListN.{length-set}
@@ -15,7 +54,20 @@ use Rattle.bp_core.specs.declared.line.Entry.{Entry}
 use Rattle.bp_core.specs.Lines.{History, no_line, line_at, booked_stay, is_book_by, is_accepted, has_given_up}
 use Rattle.bp_core.specs.Instance.{book_number}
 use Rattle.bp_report.specs.declared.tally.Tally.{Tally}
-use Rattle.bp_report.specs.Tallies.{is_too_low, is_no_room, reply_at, asks_for, is_called_off, places, no_tally, IsSmall, tally_of, with_book, tallies_of, booked_of}
+use Rattle.bp_report.specs.Tallies.{
+  is_too_low,
+  is_no_room,
+  reply_at,
+  asks_for,
+  is_called_off,
+  places,
+  no_tally,
+  IsSmall,
+  tally_of,
+  with_book,
+  tallies_of,
+  booked_of,
+}
 
 places-more : (test : ℕ → Bool) (n : ℕ) → places test (n + 1) ≡ places test n + cond (test n) 1 0
 places-more test n = ap (sum_below (λ i. cond (test i) 1 0)) (add-one n)
@@ -168,15 +220,18 @@ entry-at H n e within is =
     (cc)
 
 -- the same of what was read
-pub booked-read : (H : History) (n s : ℕ) (e : Entry) (booked new : List ℕ) → n < length H → (line_at H n).entry.caller < CALLERS → e ≡ (line_at H n).entry → booked_stay (line_at H n).entry.act ≡ Some s → booked ≡ booked_of H n
+pub booked-read : (H : History) (n s : ℕ) (e : Entry) (booked new : List ℕ) → n < length H → (line_at H n).entry.caller < CALLERS → e ≡ (line_at H n).entry →
+    booked_stay (line_at H n).entry.act ≡ Some s → booked ≡ booked_of H n
     → new ≡ slice_set booked e.caller (get_or booked e.caller 0 + 1) → new ≡ booked_of H (n + 1)
 booked-read H n s e booked new within small is some before after =
     after ∙ ap (λ (x : Entry). set booked x.caller (get_or booked x.caller 0 + 1)) is
     ∙ ap (λ b. set b (line_at H n).entry.caller (get_or b (line_at H n).entry.caller 0 + 1)) before
     ∙ booked-grow H n s within small some
 
-pub tallies-read : (H : History) (stays n s : ℕ) (e : Entry) (booked : List ℕ) (old new : List Tally) → n < length H → (line_at H n).entry.caller < CALLERS → s < stays → e ≡ (line_at H n).entry → booked_stay (line_at H n).entry.act ≡ Some s → booked ≡ booked_of H n → old ≡ tallies_of H stays n
-    → new ≡ slice_set old s (with_book (get_or old s no_tally) e.reply (has_given_up H e.caller (get_or booked e.caller 0 + 1))) → new ≡ tallies_of H stays (n + 1)
+pub tallies-read : (H : History) (stays n s : ℕ) (e : Entry) (booked : List ℕ) (old new : List Tally) → n < length H → (line_at H n).entry.caller < CALLERS →
+    s < stays → e ≡ (line_at H n).entry → booked_stay (line_at H n).entry.act ≡ Some s → booked ≡ booked_of H n → old ≡ tallies_of H stays n
+    → new ≡ slice_set old s (with_book (get_or old s no_tally) e.reply (has_given_up H e.caller (get_or booked e.caller 0 + 1))) →
+    new ≡ tallies_of H stays (n + 1)
 tallies-read H stays n s e booked old new within small inside is some before so_far after =
     let x = line_at H n in
     after ∙ ap (λ (y : Entry). set old s (with_book (get_or old s no_tally) y.reply (has_given_up H y.caller (get_or booked y.caller 0 + 1)))) is
@@ -197,7 +252,8 @@ booked-few H n caller small =
 pub tallies-small : (H : History) (stays n s : ℕ) (t : List Tally) → s < stays → t ≡ tallies_of H stays n → IsSmall (get_or t s no_tally) n
 tallies-small H stays n s t inside is =
     let P : Tally → Type 0 = λ x. IsSmall x n in
-    subst P (sym (ap (λ (l : List Tally). get_or l s no_tally) is ∙ get_or-map-range_with_len (tally_of H n) 0 stays s s no_tally inside (zero-add s))) (tally-small H n s)
+    subst P (sym (ap (λ (l : List Tally). get_or l s no_tally) is ∙ get_or-map-range_with_len (tally_of H n) 0 stays s s no_tally inside (zero-add s)))
+    (tally-small H n s)
 
 pub small-more : (t : Tally) (n most : ℕ) → n ≤ most → IsSmall t n → IsSmall t most
 small-more t n most few small = record {
@@ -214,4 +270,5 @@ booked-none H = refl
 
 pub tallies-none : (H : History) (stays : ℕ) → replicate stays no_tally ≡ tallies_of H stays 0
 tallies-none H stays =
-    fill_by_all (tally_of H 0) (replicate stays no_tally) stays no_tally (length-replicate stays no_tally) (λ k within. get_or-replicate stays k no_tally no_tally within)
+    fill_by_all (tally_of H 0) (replicate stays no_tally) stays no_tally (length-replicate stays no_tally)
+    (λ k within. get_or-replicate stays k no_tally no_tally within)

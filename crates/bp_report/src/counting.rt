@@ -56,7 +56,8 @@ fn count_entry(book: &Book, place: u64, booked: &mut [u64], tallies: &mut [Tally
 
 /// The tally of each stay.
 pub(crate) fn tallies_of(alloc: Global, book: &Book) -> Result<Vec<Tally>, Memory>
-    ensures { IfOk result (λ v. v.items ≡ tallies_of book.now.history (length book.now.house.stays) (length book.now.history)) }
+    ensures { IfOk result (λ v. v.items ≡
+        tallies_of book.now.history (length book.now.house.stays) (length book.now.history)) }
 {
     let mut tallies = vec![in alloc; Tally::none(); book.house().stays() as usize]?;
     let mut booked = [0; CALLERS];

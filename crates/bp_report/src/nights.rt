@@ -44,7 +44,8 @@ fn draft_night<K: Sink>(
     out: &mut K,
 ) -> Result<(), WriteError>
     requires { night < length book.now.house.rooms }
-    ensures writes { Drafts (K.written out.old) (K.written out.new) draft.old draft.new (night_line book.now.house book.now.history date.now night ++ 10 ∷ []) result }
+    ensures writes { Drafts (K.written out.old) (K.written out.new) draft.old draft.new
+        (night_line book.now.house book.now.history date.now night ++ 10 ∷ []) result }
     ensures failed { IsErrOf result WriteError.Failed → Rose (K.faults out.old) (K.faults out.new) }
     ensures unfailing { K.steady out.old → ¬ IsErrOf result WriteError.Failed }
     ensures steady { K.steady out.old → K.steady out.new }
@@ -63,7 +64,8 @@ fn draft_lines<K: Sink>(
     out: &mut K,
 ) -> Result<(), WriteError>
     requires { length book.now.house.rooms ≤ length dates.now }
-    ensures writes { Drafts (K.written out.old) (K.written out.new) draft.old draft.new (text_of (night_lines dates.now book.now.house book.now.history (length book.now.house.rooms))) result }
+    ensures writes { Drafts (K.written out.old) (K.written out.new) draft.old draft.new
+        (text_of (night_lines dates.now book.now.house book.now.history (length book.now.house.rooms))) result }
     ensures failed { IsErrOf result WriteError.Failed → Rose (K.faults out.old) (K.faults out.new) }
     ensures unfailing { K.steady out.old → ¬ IsErrOf result WriteError.Failed }
     ensures steady { K.steady out.old → K.steady out.new }
@@ -84,7 +86,9 @@ pub(crate) fn draft_nights<K: Sink>(
     out: &mut K,
 ) -> Result<(), WriteError>
     requires { length book.now.house.rooms ≤ length dates.now }
-    ensures writes { Drafts (K.written out.old) (K.written out.new) draft.old draft.new (text_of (night_header ∷ night_lines dates.now book.now.house book.now.history (length book.now.house.rooms))) result }
+    ensures writes { Drafts (K.written out.old) (K.written out.new) draft.old draft.new
+        (text_of (night_header ∷ night_lines dates.now book.now.house book.now.history (length book.now.house.rooms)))
+        result }
     ensures failed { IsErrOf result WriteError.Failed → Rose (K.faults out.old) (K.faults out.new) }
     ensures unfailing { K.steady out.old → ¬ IsErrOf result WriteError.Failed }
     ensures steady { K.steady out.old → K.steady out.new }

@@ -42,7 +42,8 @@ fn draft_stay<K: Sink>(
     forecast: u64,
     out: &mut K,
 ) -> Result<(), WriteError>
-    ensures writes { Drafts (K.written out.old) (K.written out.new) draft.old draft.new (stay_line code.now tally forecast ++ 10 ∷ []) result }
+    ensures writes { Drafts (K.written out.old) (K.written out.new) draft.old draft.new
+        (stay_line code.now tally forecast ++ 10 ∷ []) result }
     ensures failed { IsErrOf result WriteError.Failed → Rose (K.faults out.old) (K.faults out.new) }
     ensures unfailing { K.steady out.old → ¬ IsErrOf result WriteError.Failed }
     ensures steady { K.steady out.old → K.steady out.new }
@@ -63,7 +64,8 @@ fn draft_lines<K: Sink>(
 ) -> Result<(), WriteError>
     requires stays { length book.now.house.stays ≡ length codes.now }
     requires tallies { tallies.now ≡ tallies_of book.now.history (length codes.now) (length book.now.history) }
-    ensures writes { Drafts (K.written out.old) (K.written out.new) draft.old draft.new (text_of (stay_lines codes.now book.now.house book.now.history (length codes.now))) result }
+    ensures writes { Drafts (K.written out.old) (K.written out.new) draft.old draft.new
+        (text_of (stay_lines codes.now book.now.house book.now.history (length codes.now))) result }
     ensures failed { IsErrOf result WriteError.Failed → Rose (K.faults out.old) (K.faults out.new) }
     ensures unfailing { K.steady out.old → ¬ IsErrOf result WriteError.Failed }
     ensures steady { K.steady out.old → K.steady out.new }
@@ -94,7 +96,8 @@ pub(crate) fn draft_stays<K: Sink>(
 ) -> Result<(), WriteError>
     requires stays { length book.now.house.stays ≡ length codes.now }
     requires tallies { tallies.now ≡ tallies_of book.now.history (length codes.now) (length book.now.history) }
-    ensures writes { Drafts (K.written out.old) (K.written out.new) draft.old draft.new (text_of (stay_header ∷ stay_lines codes.now book.now.house book.now.history (length codes.now))) result }
+    ensures writes { Drafts (K.written out.old) (K.written out.new) draft.old draft.new
+        (text_of (stay_header ∷ stay_lines codes.now book.now.house book.now.history (length codes.now))) result }
     ensures failed { IsErrOf result WriteError.Failed → Rose (K.faults out.old) (K.faults out.new) }
     ensures unfailing { K.steady out.old → ¬ IsErrOf result WriteError.Failed }
     ensures steady { K.steady out.old → K.steady out.new }

@@ -32,7 +32,8 @@ fn draft_report<K: Sink>(
     requires nights { length book.now.house.rooms ≤ length dates.now }
     requires stays { length book.now.house.stays ≡ length codes.now }
     requires tallies { tallies.now ≡ tallies_of book.now.history (length codes.now) (length book.now.history) }
-    ensures writes { Drafts (K.written out.old) (K.written out.new) draft.old draft.new (text_of (report_lines dates.now codes.now book.now.house book.now.history)) result }
+    ensures writes { Drafts (K.written out.old) (K.written out.new) draft.old draft.new
+        (text_of (report_lines dates.now codes.now book.now.house book.now.history)) result }
     ensures failed { IsErrOf result WriteError.Failed → Rose (K.faults out.old) (K.faults out.new) }
     ensures unfailing { K.steady out.old → ¬ IsErrOf result WriteError.Failed }
     ensures steady { K.steady out.old → K.steady out.new }
@@ -53,7 +54,8 @@ pub(crate) fn write_tables<K: Sink>(
     out: &mut K,
 ) -> Result<(), WriteError>
     requires { AreReady dates.now codes.now book.now.house book.now.history tallies.now }
-    ensures writes { Writes (K.written out.old) (K.written out.new) (text_of (report_lines dates.now codes.now book.now.house book.now.history)) result }
+    ensures writes { Writes (K.written out.old) (K.written out.new)
+        (text_of (report_lines dates.now codes.now book.now.house book.now.history)) result }
     ensures failed { IsErrOf result WriteError.Failed → Rose (K.faults out.old) (K.faults out.new) }
     ensures unfailing { K.steady out.old → ¬ IsErrOf result WriteError.Failed }
     ensures steady { K.steady out.old → K.steady out.new }
@@ -74,7 +76,8 @@ pub fn report<K: Sink>(
 ) -> Result<(), WriteError>
     requires nights { length book.now.house.rooms ≡ length hotel.now.rooms }
     requires stays { length book.now.house.stays ≡ length codes.now }
-    ensures writes { (text : List ℕ) × IsReport hotel.now codes.now book.now.house book.now.history text × Writes (K.written out.old) (K.written out.new) text result }
+    ensures writes { (text : List ℕ) × IsReport hotel.now codes.now book.now.house book.now.history text ×
+        Writes (K.written out.old) (K.written out.new) text result }
     ensures failed { IsErrOf result WriteError.Failed → Rose (K.faults out.old) (K.faults out.new) }
     ensures unfailing { K.steady out.old → ¬ IsErrOf result WriteError.Failed }
     ensures steady { K.steady out.old → K.steady out.new }

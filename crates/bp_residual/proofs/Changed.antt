@@ -1,5 +1,27 @@
 -- A changed instance under a flow with potentials.
-use Rattle.std.proofs.Common.{◌≡◌, ℕ, ◌+◌, ◌<◌, ◌≤◌, ◌∙◌, sym, ap, arith, Bool, List, length, slice_index, slice_set, slice_index_or, subst, inl, inr, get_or-set_same, get_or-set_other, length-set}
+use Rattle.std.proofs.Common.{
+  ◌≡◌,
+  ℕ,
+  ◌+◌,
+  ◌<◌,
+  ◌≤◌,
+  ◌∙◌,
+  sym,
+  ap,
+  arith,
+  Bool,
+  List,
+  length,
+  slice_index,
+  slice_set,
+  slice_index_or,
+  subst,
+  inl,
+  inr,
+  get_or-set_same,
+  get_or-set_other,
+  length-set,
+}
 use Rattle.std.proofs.lemmas.Bool.{cases_eq}
 use Rattle.bp_types.specs.declared.stay.Span.{Span}
 use Rattle.bp_types.specs.declared.stay.Stay.{Stay}
@@ -26,9 +48,11 @@ night_moved rooms night units value up h is =
     ]) (λ k past. get_or-set_other rooms night k value 0 (λ e. omega arith)))
 
 -- a flow with potentials, on other rooms
-pub rooms_keep_priced : (p : Priced) (q : Program) → IsPriced p → IsWithinLimits q → q.stays ≡ p.flow.program.stays → length q.rooms ≡ length p.flow.program.rooms → IsPriced (with_program p q)
+pub rooms_keep_priced : (p : Priced) (q : Program) → IsPriced p → IsWithinLimits q → q.stays ≡ p.flow.program.stays →
+    length q.rooms ≡ length p.flow.program.rooms → IsPriced (with_program p q)
 rooms_keep_priced p q priced limits stays each =
-    let forecast : (j : ℕ) → (stay_at q j).forecast ≡ (stay_at p.flow.program j).forecast = λ j. ap (λ (ss : List Stay). (slice_index_or ss j no_stay).forecast) stays in
+    let forecast : (j : ℕ) → (stay_at q j).forecast ≡ (stay_at p.flow.program j).forecast =
+    λ j. ap (λ (ss : List Stay). (slice_index_or ss j no_stay).forecast) stays in
     let one_length : length q.stays ≡ length p.flow.program.stays = ap (λ (ss : List Stay). length ss) stays in
     let P : ℕ → Type 0 = λ n. ArePotentials n p.potentials in
     record {
@@ -43,12 +67,16 @@ rooms_keep_priced p q priced limits stays each =
     }
 
 -- so with rooms moved on a span
-pub moved_rooms_keep_priced : (p : Priced) (q : Program) (s : Span) (up : Bool) (units : ℕ) → IsPriced p → IsWithinLimits q → q ≡ changed p.flow.program (Rooms s up units) → IsPriced (with_program p q)
+pub moved_rooms_keep_priced : (p : Priced) (q : Program) (s : Span) (up : Bool) (units : ℕ) → IsPriced p → IsWithinLimits q →
+    q ≡ changed p.flow.program (Rooms s up units) → IsPriced (with_program p q)
 moved_rooms_keep_priced p q s up units priced limits is =
-    rooms_keep_priced p q priced limits (ap (λ (r : Program). r.stays) is) (ap (λ (r : Program). length r.rooms) is ∙ length-rooms_moved p.flow.program.rooms s up units)
+    rooms_keep_priced p q priced limits (ap (λ (r : Program). r.stays) is) (ap (λ (r : Program). length r.rooms) is ∙
+    length-rooms_moved p.flow.program.rooms s up units)
 
 -- a flow with potentials, on stays that still ask for what is sold
-stays_keep_priced : (p : Priced) (q : Program) → IsPriced p → IsWithinLimits q → q.rooms ≡ p.flow.program.rooms → length q.stays ≡ length p.flow.program.stays → ((j : ℕ) → j < length p.flow.program.stays → slice_index p.flow.sell j ≤ (stay_at q j).forecast) → IsPriced (with_program p q)
+stays_keep_priced : (p : Priced) (q : Program) → IsPriced p → IsWithinLimits q → q.rooms ≡ p.flow.program.rooms →
+    length q.stays ≡ length p.flow.program.stays → ((j : ℕ) → j < length p.flow.program.stays → slice_index p.flow.sell j ≤ (stay_at q j).forecast) →
+    IsPriced (with_program p q)
 stays_keep_priced p q priced limits rooms each asked =
     let nights : length q.rooms ≡ length p.flow.program.rooms = ap (λ (rs : List ℕ). length rs) rooms in
     let P : ℕ → Type 0 = λ n. ArePotentials n p.potentials in
@@ -63,25 +91,36 @@ stays_keep_priced p q priced limits rooms each asked =
       potentials = subst P (sym nights) priced.potentials;
     }
 
-pub demand_keeps_priced : (p : Priced) (q : Program) (j value : ℕ) → IsPriced p → IsWithinLimits q → j < length p.flow.program.stays → slice_index p.flow.sell j ≤ value → q ≡ changed p.flow.program (Demand j value) → IsPriced (with_program p q)
+pub demand_keeps_priced : (p : Priced) (q : Program) (j value : ℕ) → IsPriced p → IsWithinLimits q → j < length p.flow.program.stays →
+    slice_index p.flow.sell j ≤ value → q ≡ changed p.flow.program (Demand j value) → IsPriced (with_program p q)
 demand_keeps_priced p q j value priced limits in_range sold is =
     let other : Stay = with_forecast (stay_at p.flow.program j) value in
     let stays : q.stays ≡ slice_set p.flow.program.stays j other = ap (λ (r : Program). r.stays) is in
-    stays_keep_priced p q priced limits (ap (λ (r : Program). r.rooms) is) (ap (λ (ss : List Stay). length ss) stays ∙ length-set p.flow.program.stays j other) (λ i h.
-    let at : (stay_at q i).forecast ≡ (slice_index_or (slice_set p.flow.program.stays j other) i no_stay).forecast = ap (λ (ss : List Stay). (slice_index_or ss i no_stay).forecast) stays in
+    stays_keep_priced p q priced limits (ap (λ (r : Program). r.rooms) is) (ap (λ (ss : List Stay). length ss) stays ∙
+    length-set p.flow.program.stays j other) (λ i h.
+    let at : (stay_at q i).forecast ≡ (slice_index_or (slice_set p.flow.program.stays j other) i no_stay).forecast =
+    ap (λ (ss : List Stay). (slice_index_or ss i no_stay).forecast) stays in
     elim (cases_eq i j) [
-      | inl e ↦ let here = ap (λ (s : Stay). s.forecast) (get_or-set_same p.flow.program.stays j other no_stay in_range) in let a = ap (λ k. (slice_index_or (slice_set p.flow.program.stays j other) k no_stay).forecast) e in let b = ap (slice_index p.flow.sell) e in omega (arith, at, here, a, b, sold)
-      | inr ne ↦ let same = ap (λ (s : Stay). s.forecast) (get_or-set_other p.flow.program.stays j i other no_stay ne) in omega (arith, at, same, priced.flow.within_forecast i h)
+      | inl e ↦ let here = ap (λ (s : Stay). s.forecast) (get_or-set_same p.flow.program.stays j other no_stay in_range) in
+          let a = ap (λ k. (slice_index_or (slice_set p.flow.program.stays j other) k no_stay).forecast) e in let b = ap (slice_index p.flow.sell) e in
+          omega (arith, at, here, a, b, sold)
+      | inr ne ↦ let same = ap (λ (s : Stay). s.forecast) (get_or-set_other p.flow.program.stays j i other no_stay ne) in
+          omega (arith, at, same, priced.flow.within_forecast i h)
     ])
 
-pub rate_keeps_priced : (p : Priced) (q : Program) (j value : ℕ) → IsPriced p → IsWithinLimits q → j < length p.flow.program.stays → q ≡ changed p.flow.program (Rate j value) → IsPriced (with_program p q)
+pub rate_keeps_priced : (p : Priced) (q : Program) (j value : ℕ) → IsPriced p → IsWithinLimits q → j < length p.flow.program.stays →
+    q ≡ changed p.flow.program (Rate j value) → IsPriced (with_program p q)
 rate_keeps_priced p q j value priced limits in_range is =
     let other : Stay = with_rate (stay_at p.flow.program j) value in
     let stays : q.stays ≡ slice_set p.flow.program.stays j other = ap (λ (r : Program). r.stays) is in
-    stays_keep_priced p q priced limits (ap (λ (r : Program). r.rooms) is) (ap (λ (ss : List Stay). length ss) stays ∙ length-set p.flow.program.stays j other) (λ i h.
-    let at : (stay_at q i).forecast ≡ (slice_index_or (slice_set p.flow.program.stays j other) i no_stay).forecast = ap (λ (ss : List Stay). (slice_index_or ss i no_stay).forecast) stays in
+    stays_keep_priced p q priced limits (ap (λ (r : Program). r.rooms) is) (ap (λ (ss : List Stay). length ss) stays ∙
+    length-set p.flow.program.stays j other) (λ i h.
+    let at : (stay_at q i).forecast ≡ (slice_index_or (slice_set p.flow.program.stays j other) i no_stay).forecast =
+    ap (λ (ss : List Stay). (slice_index_or ss i no_stay).forecast) stays in
     let was = priced.flow.within_forecast i h in
     elim (cases_eq i j) [
-      | inl e ↦ let here = ap (λ (s : Stay). s.forecast) (get_or-set_same p.flow.program.stays j other no_stay in_range) in let a = ap (λ k. (slice_index_or (slice_set p.flow.program.stays j other) k no_stay).forecast) e in let b = ap (λ k. (stay_at p.flow.program k).forecast) e in omega (arith, at, here, a, b, was)
+      | inl e ↦ let here = ap (λ (s : Stay). s.forecast) (get_or-set_same p.flow.program.stays j other no_stay in_range) in
+          let a = ap (λ k. (slice_index_or (slice_set p.flow.program.stays j other) k no_stay).forecast) e in
+          let b = ap (λ k. (stay_at p.flow.program k).forecast) e in omega (arith, at, here, a, b, was)
       | inr ne ↦ let same = ap (λ (s : Stay). s.forecast) (get_or-set_other p.flow.program.stays j i other no_stay ne) in omega (arith, at, same, was)
     ])

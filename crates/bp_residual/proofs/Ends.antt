@@ -1,5 +1,30 @@
 -- The ends of the arcs: no change moves them, and they tell the tails of the hops.
-use Rattle.std.proofs.Common.{◌≡◌, ℕ, ◌+◌, ◌-◌, ◌<◌, ◌≤◌, refl, ap, ◌∙◌, sym, subst, arith, Bool, true, false, List, length, slice_index_or, slice_set, inl, inr, get_or-set_same, get_or-set_other, length-set}
+use Rattle.std.proofs.Common.{
+  ◌≡◌,
+  ℕ,
+  ◌+◌,
+  ◌-◌,
+  ◌<◌,
+  ◌≤◌,
+  refl,
+  ap,
+  ◌∙◌,
+  sym,
+  subst,
+  arith,
+  Bool,
+  true,
+  false,
+  List,
+  length,
+  slice_index_or,
+  slice_set,
+  inl,
+  inr,
+  get_or-set_same,
+  get_or-set_other,
+  length-set,
+}
 use Rattle.std.proofs.lemmas.Bool.{cases_eq, cases_lt, cond-true, cond-false, lt-ltb, le-ltb}
 use Rattle.std.proofs.lemmas.List.Elements.{All-weaker}
 use Rattle.bp_types.specs.declared.stay.Span.{Span}
@@ -11,11 +36,12 @@ use Rattle.bp_types.specs.Limits.{IsWithinLimits}
 use Rattle.bp_types.specs.Changes.{changed, with_forecast, with_rate}
 use Rattle.bp_types.proofs.RoomLemmas.{length-rooms_moved}
 use Rattle.bp_residual.specs.declared.hop.Hop.{Hop}
-use Rattle.bp_residual.specs.Network.{sell_more, sell_less, spare_more, spare_less, tail, step_of, arcs}
-use Rattle.bp_residual.specs.Index.{Shape, AreEnds, AreNodes, AreHopsOf, AreHopsAt, LeavesAt, end_at, tail_at}
+use Rattle.bp_residual.specs.Network.{sell_more, sell_less, spare_more, spare_less, tail, head, step_of, arcs}
+use Rattle.bp_residual.specs.Index.{Shape, AreEnds, AreNodes, AreHopsOf, AreHopsAt, LeavesAt, end_at, tail_at, head_at}
 
 -- programs with the same nights, stays and spans have the same ends
-same_ends : (p q : Program) (s : Shape) → length q.rooms ≡ length p.rooms → length q.stays ≡ length p.stays → ((j : ℕ) → j < length p.stays → (stay_at q j).span ≡ (stay_at p j).span) → AreEnds p s → AreEnds q s
+pub same_ends : (p q : Program) (s : Shape) → length q.rooms ≡ length p.rooms → length q.stays ≡ length p.stays →
+    ((j : ℕ) → j < length p.stays → (stay_at q j).span ≡ (stay_at p j).span) → AreEnds p s → AreEnds q s
 same_ends p q s nights stays spans ends =
     let at : (n : ℕ) → end_at s.ends (length q.stays + n) ≡ end_at s.ends (length p.stays + n) = λ n. ap (λ k. end_at s.ends (k + n)) stays in
     record {
@@ -26,7 +52,8 @@ same_ends p q s nights stays spans ends =
     }
 
 -- a stay replaced by one of the same span
-same_span : (stays : List Stay) (j : ℕ) (other : Stay) (i : ℕ) → other.span ≡ (slice_index_or stays j no_stay).span → i < length stays → (slice_index_or (slice_set stays j other) i no_stay).span ≡ (slice_index_or stays i no_stay).span
+same_span : (stays : List Stay) (j : ℕ) (other : Stay) (i : ℕ) → other.span ≡ (slice_index_or stays j no_stay).span → i < length stays →
+    (slice_index_or (slice_set stays j other) i no_stay).span ≡ (slice_index_or stays i no_stay).span
 same_span stays j other i same h =
     elim (cases_eq i j) [
       | inl e ↦
@@ -53,7 +80,8 @@ ends_of_rooms p q s stays nights ends =
     same_ends p q s nights (ap (λ (ss : List Stay). length ss) stays) (λ j h. ap (λ (ss : List Stay). (slice_index_or ss j no_stay).span) stays) ends
 
 -- the node that a hop leaves, by the ends of its arc
-pub tail_by_ends : (p : Program) (s : Shape) (arc : ℕ) (b : Bool) → AreEnds p s → arc < arcs p → tail p (step_of p (record { arc = arc; forward = b })) ≡ tail_at s.ends (record { arc = arc; forward = b })
+pub tail_by_ends : (p : Program) (s : Shape) (arc : ℕ) (b : Bool) → AreEnds p s → arc < arcs p →
+    tail p (step_of p (record { arc = arc; forward = b })) ≡ tail_at s.ends (record { arc = arc; forward = b })
 tail_by_ends p s arc b ends h =
     elim (cases_lt arc (length p.stays)) [
       | inl stay ↦ by_stay b stay
@@ -61,20 +89,51 @@ tail_by_ends p s arc b ends h =
     ]
   where
     by_stay : (b : Bool) → arc < length p.stays → tail p (step_of p (record { arc = arc; forward = b })) ≡ tail_at s.ends (record { arc = arc; forward = b })
-    by_stay true stay = ap (tail p) (cond-true _ (sell_more arc) (spare_more (arc - length p.stays)) (lt-ltb _ _ stay)) ∙ sym (ap (λ (z : Span). z.from) (ends.stay arc stay))
-    by_stay false stay = ap (tail p) (cond-true _ (sell_less arc) (spare_less (arc - length p.stays)) (lt-ltb _ _ stay)) ∙ sym (ap (λ (z : Span). z.to) (ends.stay arc stay))
+    by_stay true stay = ap (tail p) (cond-true _ (sell_more arc) (spare_more (arc - length p.stays)) (lt-ltb _ _ stay)) ∙
+        sym (ap (λ (z : Span). z.from) (ends.stay arc stay))
+    by_stay false stay = ap (tail p) (cond-true _ (sell_less arc) (spare_less (arc - length p.stays)) (lt-ltb _ _ stay)) ∙
+        sym (ap (λ (z : Span). z.to) (ends.stay arc stay))
 
     place : length p.stays ≤ arc → end_at s.ends arc ≡ record { from = arc - length p.stays; to = arc - length p.stays + 1 }
-    place night = let e : length p.stays + (arc - length p.stays) ≡ arc = omega arith in ap (end_at s.ends) (sym e) ∙ ends.night (arc - length p.stays) (omega arith)
+    place night = let e : length p.stays + (arc - length p.stays) ≡ arc = omega arith in
+        ap (end_at s.ends) (sym e) ∙ ends.night (arc - length p.stays) (omega arith)
 
     by_night : (b : Bool) → length p.stays ≤ arc → tail p (step_of p (record { arc = arc; forward = b })) ≡ tail_at s.ends (record { arc = arc; forward = b })
-    by_night true night = ap (tail p) (cond-false _ (sell_more arc) (spare_more (arc - length p.stays)) (le-ltb _ _ night)) ∙ sym (ap (λ (z : Span). z.from) (place night))
-    by_night false night = ap (tail p) (cond-false _ (sell_less arc) (spare_less (arc - length p.stays)) (le-ltb _ _ night)) ∙ sym (ap (λ (z : Span). z.to) (place night))
+    by_night true night = ap (tail p) (cond-false _ (sell_more arc) (spare_more (arc - length p.stays)) (le-ltb _ _ night)) ∙
+        sym (ap (λ (z : Span). z.from) (place night))
+    by_night false night = ap (tail p) (cond-false _ (sell_less arc) (spare_less (arc - length p.stays)) (le-ltb _ _ night)) ∙
+        sym (ap (λ (z : Span). z.to) (place night))
+
+-- the node that a hop reaches, by the ends of its arc
+pub head_by_ends : (p : Program) (s : Shape) (arc : ℕ) (b : Bool) → AreEnds p s → arc < arcs p →
+    head p (step_of p (record { arc = arc; forward = b })) ≡ head_at s.ends (record { arc = arc; forward = b })
+head_by_ends p s arc b ends h =
+    elim (cases_lt arc (length p.stays)) [
+      | inl stay ↦ by_stay b stay
+      | inr night ↦ by_night b night
+    ]
+  where
+    by_stay : (b : Bool) → arc < length p.stays → head p (step_of p (record { arc = arc; forward = b })) ≡ head_at s.ends (record { arc = arc; forward = b })
+    by_stay true stay = ap (head p) (cond-true _ (sell_more arc) (spare_more (arc - length p.stays)) (lt-ltb _ _ stay)) ∙
+        sym (ap (λ (z : Span). z.to) (ends.stay arc stay))
+    by_stay false stay = ap (head p) (cond-true _ (sell_less arc) (spare_less (arc - length p.stays)) (lt-ltb _ _ stay)) ∙
+        sym (ap (λ (z : Span). z.from) (ends.stay arc stay))
+
+    place : length p.stays ≤ arc → end_at s.ends arc ≡ record { from = arc - length p.stays; to = arc - length p.stays + 1 }
+    place night = let e : length p.stays + (arc - length p.stays) ≡ arc = omega arith in
+        ap (end_at s.ends) (sym e) ∙ ends.night (arc - length p.stays) (omega arith)
+
+    by_night : (b : Bool) → length p.stays ≤ arc → head p (step_of p (record { arc = arc; forward = b })) ≡ head_at s.ends (record { arc = arc; forward = b })
+    by_night true night = ap (head p) (cond-false _ (sell_more arc) (spare_more (arc - length p.stays)) (le-ltb _ _ night)) ∙
+        sym (ap (λ (z : Span). z.to) (place night))
+    by_night false night = ap (head p) (cond-false _ (sell_less arc) (spare_less (arc - length p.stays)) (le-ltb _ _ night)) ∙
+        sym (ap (λ (z : Span). z.from) (place night))
 
 pub hops_by_ends : (p : Program) (s : Shape) (v : ℕ) (hops : List Hop) → AreEnds p s → AreHopsOf s.ends v hops → AreHopsAt p v hops
 hops_by_ends p s v hops ends found =
     record {
-      leave = All-weaker (LeavesAt s.ends v) (λ h. (h.arc < arcs p) × (tail p (step_of p h) ≡ v)) (λ h l. let in_range : h.arc < arcs p = omega (arith, l.0, ends.each) in (in_range, tail_by_ends p s h.arc h.forward ends in_range ∙ l.1)) hops found.leave;
+      leave = All-weaker (LeavesAt s.ends v) (λ h. (h.arc < arcs p) × (tail p (step_of p h) ≡ v)) (λ h l. let in_range : h.arc < arcs p =
+          omega (arith, l.0, ends.each) in (in_range, tail_by_ends p s h.arc h.forward ends in_range ∙ l.1)) hops found.leave;
       found = λ h in_range leaves. found.found h (omega (arith, in_range, ends.each)) (sym (tail_by_ends p s h.arc h.forward ends in_range) ∙ leaves);
     }
 

@@ -12,4 +12,5 @@ pub mod Changed
 pub mod Counting
 pub mod Indexed
 pub mod Ends
+pub mod SetTo
 pub mod Shortest

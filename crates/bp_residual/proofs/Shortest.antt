@@ -1,6 +1,31 @@
 -- Shortest distances to the last node: ways that begin as free arcs, each shortened while a residual step shortens one.
 -- Who knows potentials of a flow cites `distances_exist`; no search has to run for it.
-use Rattle.std.proofs.Common.{◌≡◌, ℕ, zero, suc, ◌+◌, ◌-◌, ◌<◌, ◌≤◌, refl, ap, ◌∙◌, sym, subst, arith, cond, nat_eq, ◌⊎◌, inl, inr, List, [], ◌∷◌, length, slice_index}
+use Rattle.std.proofs.Common.{
+  ◌≡◌,
+  ℕ,
+  zero,
+  suc,
+  ◌+◌,
+  ◌-◌,
+  ◌<◌,
+  ◌≤◌,
+  refl,
+  ap,
+  ◌∙◌,
+  sym,
+  subst,
+  arith,
+  cond,
+  nat_eq,
+  ◌⊎◌,
+  inl,
+  inr,
+  List,
+  [],
+  ◌∷◌,
+  length,
+  slice_index,
+}
 use Rattle.std.proofs.lemmas.Bool.{cases_eq, cases_lt, cond-true, cond-false, eq-eqb, ne_eqb}
 use Rattle.bp_types.specs.Program.{stay_at}
 use Rattle.bp_types.specs.Limits.{IsWithinLimits}
@@ -32,7 +57,11 @@ Shortens f u far s = Admits f s 1 × (reduced_cost f.program u s + far (head f.p
 admits_or_not : (f : Flow) (s : Step) → Admits f s 1 ⊎ (Admits f s 1 → ⊥)
 admits_or_not f (sell_more j) =
     elim (cases_lt j (length f.program.stays)) [
-      | inl here ↦ elim (cases_lt (slice_index f.sell j) (stay_at f.program j).forecast) [ inl room ↦ inl (here, omega (arith, room)) | inr full ↦ inr (λ a. omega (arith, a.1, full)) ]
+      | inl here ↦ elim (cases_lt (slice_index f.sell j) (stay_at f.program j).forecast) [
+        | inl room ↦ inl (here, omega (arith, room))
+        | inr full ↦
+            inr (λ a. omega (arith, a.1, full))
+      ]
       | inr past ↦ inr (λ a. omega (arith, a.0, past))
     ]
 admits_or_not f (sell_less j) =
@@ -86,7 +115,8 @@ all_or_shorter f u far =
     over n kind = all_or_one (λ k. Keeps f u far (kind k)) (λ k. Shortens f u far (kind k)) (λ k. step_test f u far (kind k)) n
 
     by_kind : ((j : ℕ) → j < length f.program.stays → Keeps f u far (sell_more j)) → ((j : ℕ) → j < length f.program.stays → Keeps f u far (sell_less j)) →
-        ((n : ℕ) → n < length f.program.rooms → Keeps f u far (spare_more n)) → ((n : ℕ) → n < length f.program.rooms → Keeps f u far (spare_less n)) → (s : Step) → Keeps f u far s
+        ((n : ℕ) → n < length f.program.rooms → Keeps f u far (spare_more n)) → ((n : ℕ) → n < length f.program.rooms → Keeps f u far (spare_less n)) →
+        (s : Step) → Keeps f u far s
     by_kind more less on back (sell_more j) a = more j a.0 a
     by_kind more less on back (sell_less j) a = less j a.0 a
     by_kind more less on back (spare_more n) a = on n a a
@@ -128,7 +158,8 @@ shortened f u far s limits has shortens =
     }
 
 -- the sum of the numbers falls
-sum_falls : (f : Flow) (u far : ℕ → ℕ) (s : Step) → IsWithinLimits f.program → Shortens f u far s → sum_below (shorter f u far s) (length f.program.rooms + 1) < sum_below far (length f.program.rooms + 1)
+sum_falls : (f : Flow) (u far : ℕ → ℕ) (s : Step) → IsWithinLimits f.program → Shortens f u far s →
+    sum_below (shorter f u far s) (length f.program.rooms + 1) < sum_below far (length f.program.rooms + 1)
 sum_falls f u far s limits shortens =
     let x = tail f.program s in
     let cost = reduced_cost f.program u s + far (head f.program s) in
@@ -137,7 +168,8 @@ sum_falls f u far s limits shortens =
     omega (arith, both, way_here far x cost, shortens.1)
 
 -- until no step shortens a way
-shortest_ways : (f : Flow) (u : ℕ → ℕ) → IsWithinLimits f.program → (most : ℕ) (far : ℕ → ℕ) → sum_below far (length f.program.rooms + 1) ≤ most → HasWays f u far →
+shortest_ways : (f : Flow) (u : ℕ → ℕ) → IsWithinLimits f.program → (most : ℕ) (far : ℕ → ℕ) → sum_below far (length f.program.rooms + 1) ≤ most →
+    HasWays f u far →
     (least : ℕ → ℕ) × HasWays f u least × ((s : Step) → Keeps f u least s)
 shortest_ways f u limits zero far few has =
     elim (all_or_shorter f u far) [
@@ -147,19 +179,22 @@ shortest_ways f u limits zero far few has =
 shortest_ways f u limits (suc most) far few has =
     elim (all_or_shorter f u far) [
       | inl keeps ↦ (far, has, keeps)
-      | inr found ↦ shortest_ways f u limits most (shorter f u far found.0) (omega (arith, few, sum_falls f u far found.0 limits found.1)) (shortened f u far found.0 limits has found.1)
+      | inr found ↦ shortest_ways f u limits most (shorter f u far found.0) (omega (arith, few, sum_falls f u far found.0 limits found.1))
+          (shortened f u far found.0 limits has found.1)
     ]
 
 -- ---- the ways to begin with
 
 -- over the free arcs, as long as the potential
-free_way : (f : Flow) (u : ℕ → ℕ) → u (length f.program.rooms) ≡ 0 → ((n : ℕ) → n < length f.program.rooms → u (n + 1) ≤ u n) → (left v : ℕ) → v + left ≡ length f.program.rooms → IsWay f u v (u v)
+free_way : (f : Flow) (u : ℕ → ℕ) → u (length f.program.rooms) ≡ 0 → ((n : ℕ) → n < length f.program.rooms → u (n + 1) ≤ u n) → (left v : ℕ) →
+    v + left ≡ length f.program.rooms → IsWay f u v (u v)
 free_way f u last falls zero v e = let at : v ≡ length f.program.rooms = omega arith in ([], at, sym (ap u at ∙ last))
 free_way f u last falls (suc left) v e =
     let on = free_way f u last falls left (v + 1) (omega arith) in
     (spare_more v ∷ on.0, (refl, omega (arith, e), on.1), omega (arith, on.2, falls v (omega (arith, e))))
 
-pub distances_exist : (f : Flow) (u : ℕ → ℕ) → IsWithinLimits f.program → u (length f.program.rooms) ≡ 0 → ((n : ℕ) → n < length f.program.rooms → u (n + 1) ≤ u n) → (far : ℕ → ℕ) × IsSettledBy f u far (λ v. u v - far v)
+pub distances_exist : (f : Flow) (u : ℕ → ℕ) → IsWithinLimits f.program → u (length f.program.rooms) ≡ 0 →
+    ((n : ℕ) → n < length f.program.rooms → u (n + 1) ≤ u n) → (far : ℕ → ℕ) × IsSettledBy f u far (λ v. u v - far v)
 distances_exist f u limits last falls =
     let free : HasWays f u u = record { way = λ v h. free_way f u last falls (length f.program.rooms - v) v (omega (arith, h)); below = λ v h. omega arith } in
     let found = shortest_ways f u limits (sum_below u (length f.program.rooms + 1)) u (omega arith) free in

@@ -19,7 +19,8 @@ mul_below k m n some below =
     let h : k * (m + 1) ≤ k * n = mul-le-mul_left k (omega arith) in
     omega (arith, h, mul-add k m 1)
 
-stay_is_tight : (rate cost sold forecast : ℕ) → sold ≤ forecast → (sold < forecast → rate ≤ cost) → (0 < sold → cost ≤ rate) → rate * sold ≡ sold * cost + forecast * (rate - cost)
+stay_is_tight : (rate cost sold forecast : ℕ) → sold ≤ forecast → (sold < forecast → rate ≤ cost) → (0 < sold → cost ≤ rate) →
+    rate * sold ≡ sold * cost + forecast * (rate - cost)
 stay_is_tight rate cost sold forecast within short some =
     elim (cases_lt sold forecast) [
       | inl left ↦
@@ -40,7 +41,8 @@ stay_is_tight rate cost sold forecast within short some =
           ]
     ]
 
-stay_from_tight : (rate cost sold forecast : ℕ) → sold ≤ forecast → rate * sold ≡ sold * cost + forecast * (rate - cost) → (sold < forecast → rate ≤ cost) × (0 < sold → cost ≤ rate)
+stay_from_tight : (rate cost sold forecast : ℕ) → sold ≤ forecast → rate * sold ≡ sold * cost + forecast * (rate - cost) →
+    (sold < forecast → rate ≤ cost) × (0 < sold → cost ≤ rate)
 stay_from_tight rate cost sold forecast within tight = (
   λ left. elim (cases_lt cost rate) [
     | inr fine ↦ fine
@@ -84,22 +86,26 @@ night_from_tight x taken spare rooms balance tight some =
 
 -- ---- the whole flow
 
-stay_in_range : (p : Program) (j : ℕ) → IsWithinLimits p → j < length p.stays → ((stay_at p j).span.from < (stay_at p j).span.to) × ((stay_at p j).span.to ≤ length p.rooms)
+stay_in_range : (p : Program) (j : ℕ) → IsWithinLimits p → j < length p.stays →
+    ((stay_at p j).span.from < (stay_at p j).span.to) × ((stay_at p j).span.to ≤ length p.rooms)
 stay_in_range p j limits h = limits.spans j no_stay h
 
-price_falls : (f : Flow) (u : ℕ → ℕ) (prices : List ℕ) (j : ℕ) → IsWithinLimits f.program → length prices ≡ length f.program.rooms → AreSuffixSums u prices → j < length f.program.stays → price prices (stay_at f.program j).span + u (stay_at f.program j).span.to ≡ u (stay_at f.program j).span.from
+price_falls : (f : Flow) (u : ℕ → ℕ) (prices : List ℕ) (j : ℕ) → IsWithinLimits f.program → length prices ≡ length f.program.rooms → AreSuffixSums u prices →
+    j < length f.program.stays → price prices (stay_at f.program j).span + u (stay_at f.program j).span.to ≡ u (stay_at f.program j).span.from
 price_falls f u prices j limits one_each sums h =
     let range = stay_in_range f.program j limits h in
     price_is_fall u prices (stay_at f.program j).span sums (omega (arith, range.0)) (omega (arith, range.1, one_each))
 
 worth_is_paid : (f : Flow) (prices : List ℕ) → length prices ≡ length f.program.rooms →
-    sum_below (λ j. slice_index f.sell j * price prices (stay_at f.program j).span + (stay_at f.program j).forecast * surplus f.program prices j) (length f.program.stays)
+    sum_below (λ j. slice_index f.sell j * price prices (stay_at f.program j).span + (stay_at f.program j).forecast * surplus f.program prices j)
+    (length f.program.stays)
     ≡ sum_below (λ n. slice_index prices n * load f.program f.sell n) (length f.program.rooms) + stays_value f.program prices
 worth_is_paid f prices one_each =
     let p = f.program in
     let paid : ℕ → ℕ = λ j. slice_index f.sell j * price prices (stay_at p j).span in
     let over : ℕ → ℕ = λ j. (stay_at p j).forecast * surplus p prices j in
-    let exchange : sum_below paid (length p.stays) ≡ sum_below (λ n. slice_index prices n * load p f.sell n) (length p.rooms) = paid_is_earned p f.sell prices ∙ ap (sum_below (λ n. slice_index prices n * load p f.sell n)) one_each in
+    let exchange : sum_below paid (length p.stays) ≡ sum_below (λ n. slice_index prices n * load p f.sell n) (length p.rooms) =
+    paid_is_earned p f.sell prices ∙ ap (sum_below (λ n. slice_index prices n * load p f.sell n)) one_each in
     sum_below-add paid over (length p.stays) ∙ ap (λ x. x + sum_below over (length p.stays)) exchange
 
 pub slack_flows_are_optimal : SlackFlowsAreOptimal
@@ -107,7 +113,8 @@ slack_flows_are_optimal f u prices limits flow balance one_each sums slack =
     let p = f.program in
     let M = length p.stays in
     let N = length p.rooms in
-    let each_stay : worth p f.sell ≡ sum_below (λ j. slice_index f.sell j * price prices (stay_at p j).span + (stay_at p j).forecast * surplus p prices j) M = sum_below-cong _ _ M (λ j h.
+    let each_stay : worth p f.sell ≡ sum_below (λ j. slice_index f.sell j * price prices (stay_at p j).span + (stay_at p j).forecast * surplus p prices j) M =
+    sum_below-cong _ _ M (λ j h.
     let fall = price_falls f u prices j limits one_each sums h in
     stay_is_tight (stay_at p j).rate (price prices (stay_at p j).span) (slice_index f.sell j) (stay_at p j).forecast (flow.within_forecast j h)
     (λ left. let s : IsNonNegative p u (sell_more j) = slack (sell_more j) (h, omega arith) in omega arith)
@@ -125,8 +132,11 @@ slack_flows_are_optimal f u prices limits flow balance one_each sums slack =
     )
 
 -- each stay and each night is tight, where the whole is
-tight_parts : (f : Flow) (prices : List ℕ) → IsFlow f → IsBalanced f → length prices ≡ length f.program.rooms → worth f.program f.sell ≡ bound f.program prices →
-    ((j : ℕ) → j < length f.program.stays → (stay_at f.program j).rate * slice_index f.sell j ≡ slice_index f.sell j * price prices (stay_at f.program j).span + (stay_at f.program j).forecast * surplus f.program prices j)
+tight_parts : (f : Flow) (prices : List ℕ) → IsFlow f → IsBalanced f → length prices ≡ length f.program.rooms →
+    worth f.program f.sell ≡ bound f.program prices →
+    ((j : ℕ) → j < length f.program.stays →
+    (stay_at f.program j).rate * slice_index f.sell j ≡
+    slice_index f.sell j * price prices (stay_at f.program j).span + (stay_at f.program j).forecast * surplus f.program prices j)
     × ((n : ℕ) → n < length f.program.rooms → slice_index prices n * load f.program f.sell n ≡ slice_index f.program.rooms n * slice_index prices n)
 tight_parts f prices flow balance one_each agree =
     let p = f.program in
@@ -136,8 +146,11 @@ tight_parts f prices flow balance one_each agree =
     let paid : ℕ → ℕ = λ j. slice_index f.sell j * price prices (stay_at p j).span + (stay_at p j).forecast * surplus p prices j in
     let earned : ℕ → ℕ = λ n. slice_index prices n * load p f.sell n in
     let full : ℕ → ℕ = λ n. slice_index p.rooms n * slice_index prices n in
-    let pays : (j : ℕ) → j < M → sold j ≤ paid j = λ j h. stay_pays (stay_at p j).rate (price prices (stay_at p j).span) (slice_index f.sell j) (stay_at p j).forecast (flow.within_forecast j h) in
-    let earns : (n : ℕ) → n < N → earned n ≤ full n = λ n h. night_earns (slice_index prices n) (load p f.sell n) (slice_index p.rooms n) (let b = balance n h in omega arith) in
+    let pays : (j : ℕ) → j < M →
+    sold j ≤ paid j = λ j h. stay_pays (stay_at p j).rate (price prices (stay_at p j).span) (slice_index f.sell j) (stay_at p j).forecast
+    (flow.within_forecast j h) in
+    let earns : (n : ℕ) → n < N →
+    earned n ≤ full n = λ n h. night_earns (slice_index prices n) (load p f.sell n) (slice_index p.rooms n) (let b = balance n h in omega arith) in
     let all_pay : sum_below sold M ≤ sum_below paid M = sum_below-le sold paid M pays in
     let all_earn : sum_below earned N ≤ sum_below full N = sum_below-le earned full N earns in
     let exchange : sum_below paid M ≡ sum_below earned N + stays_value p prices = worth_is_paid f prices one_each in
@@ -165,14 +178,16 @@ optimal_prices_are_slack f u prices limits flow balance one_each sums agree (sel
     let p = f.program in
     let fall = price_falls f u prices j limits one_each sums admits.0 in
     let tight = (tight_parts f prices flow balance one_each agree).0 j admits.0 in
-    let facts = stay_from_tight (stay_at p j).rate (price prices (stay_at p j).span) (slice_index f.sell j) (stay_at p j).forecast (flow.within_forecast j admits.0) tight in
+    let facts = stay_from_tight (stay_at p j).rate (price prices (stay_at p j).span) (slice_index f.sell j) (stay_at p j).forecast
+    (flow.within_forecast j admits.0) tight in
     let cheap : (stay_at p j).rate ≤ price prices (stay_at p j).span = facts.0 (omega (arith, admits.1)) in
     omega arith
 optimal_prices_are_slack f u prices limits flow balance one_each sums agree (sell_less j) admits =
     let p = f.program in
     let fall = price_falls f u prices j limits one_each sums admits.0 in
     let tight = (tight_parts f prices flow balance one_each agree).0 j admits.0 in
-    let facts = stay_from_tight (stay_at p j).rate (price prices (stay_at p j).span) (slice_index f.sell j) (stay_at p j).forecast (flow.within_forecast j admits.0) tight in
+    let facts = stay_from_tight (stay_at p j).rate (price prices (stay_at p j).span) (slice_index f.sell j) (stay_at p j).forecast
+    (flow.within_forecast j admits.0) tight in
     let dear : price prices (stay_at p j).span ≤ (stay_at p j).rate = facts.1 (omega (arith, admits.1)) in
     omega arith
 optimal_prices_are_slack f u prices limits flow balance one_each sums agree (spare_more n) admits =
@@ -182,5 +197,7 @@ optimal_prices_are_slack f u prices limits flow balance one_each sums agree (spa
     let p = f.program in
     let fall : u n ≡ slice_index prices n + u (n + 1) = sums.falls n (omega (arith, one_each, admits.0)) in
     let tight = (tight_parts f prices flow balance one_each agree).1 n admits.0 in
-    let free : slice_index prices n ≡ 0 = night_from_tight (slice_index prices n) (load p f.sell n) (slice_index f.spare n) (slice_index p.rooms n) (balance n admits.0) tight (omega (arith, admits.1)) in
+    let free : slice_index prices n ≡ 0 =
+    night_from_tight (slice_index prices n) (load p f.sell n) (slice_index f.spare n) (slice_index p.rooms n) (balance n admits.0) tight
+    (omega (arith, admits.1)) in
     omega arith

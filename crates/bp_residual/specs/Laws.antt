@@ -3,7 +3,26 @@ use Rattle.std.specs.Prelude.{◌≡◌, ℕ, ◌+◌, ◌-◌, ◌≤◌, ◌<�
 use Rattle.bp_types.specs.Program.{Program, stay_at, worth, bound}
 use Rattle.bp_types.specs.Limits.{IsWithinLimits}
 use Rattle.bp_types.specs.Optimum.{IsFeasible, AreSuffixSums, AreLeastPrices}
-use Rattle.bp_residual.specs.Network.{Flow, Step, Admits, tail, head, IsSlack, IsTight, AreTight, AdmitsAlong, Joins, reduced_cost, IsPath, path_cost, pushed, pushed_along, IsBalanced, HasImbalance, IsFlow}
+use Rattle.bp_residual.specs.Network.{
+  Flow,
+  Step,
+  Admits,
+  tail,
+  head,
+  IsSlack,
+  IsTight,
+  AreTight,
+  AdmitsAlong,
+  Joins,
+  reduced_cost,
+  IsPath,
+  path_cost,
+  pushed,
+  pushed_along,
+  IsBalanced,
+  HasImbalance,
+  IsFlow,
+}
 
 -- where no reduced cost is negative, revenue and dual value agree
 abbrev pub SlackFlowsAreOptimal : Type 0

@@ -1,6 +1,35 @@
 -- The interval network: nodes 0 to N, an arc for each stay, and a free arc over each night.
 use Rattle.std.specs.List.{range_with_len}
-use Rattle.std.specs.Prelude.{◌≡◌, ◌≢◌, ℕ, ◌+◌, ◌-◌, ◌*◌, ◌^◌, ◌≤◌, ◌<◌, zero, suc, min, max, nat_le, nat_lt, if◌then◌else◌, List, [], ◌∷◌, length, map, slice_index, slice_set, All, Option, Some, None, MatchOption}
+use Rattle.std.specs.Prelude.{
+  ◌≡◌,
+  ◌≢◌,
+  ℕ,
+  ◌+◌,
+  ◌-◌,
+  ◌*◌,
+  ◌^◌,
+  ◌≤◌,
+  ◌<◌,
+  zero,
+  suc,
+  min,
+  max,
+  nat_le,
+  nat_lt,
+  if◌then◌else◌,
+  List,
+  [],
+  ◌∷◌,
+  length,
+  map,
+  slice_index,
+  slice_set,
+  All,
+  Option,
+  Some,
+  None,
+  MatchOption,
+}
 use Rattle.bp_types.specs.declared.limits.TheConstants.{MOST_PRICE}
 use Rattle.bp_types.specs.Program.{Program, stay_at, load}
 use Rattle.bp_types.specs.Limits.{IsWithinLimits}

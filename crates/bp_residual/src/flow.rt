@@ -1,5 +1,62 @@
-ghost use Rattle.std.specs.Prelude.{◌≡◌, ℕ, ◌+◌, ◌-◌, ◌*◌, ◌^◌, ◌<◌, ◌≤◌, length, slice_index, slice_set, IfOk, IfSome, MatchOption, ◌↔◌, if◌then◌else◌, All, map, neg_ℤ, pos};
-ghost use Rattle.bp_residual.specs.Network.{Priced, IsPriced, IsLifted, step_of, steps_of, arcs, tail, head, Admits, IsCost, IsFreeStep, prices_of, IsEmptyFlowOf, greatest_rate, forward_step, capacity, carried_by, gain, with_program, with_rooms, with_sold, room_of, IsSlack, pushed, sell_more, sell_less, spare_more, spare_less, greatest_spare, FitsSpare, Takes, NamesArcsOnce, pushed_along};
+ghost use Rattle.std.specs.Prelude.{
+  ◌≡◌,
+  ℕ,
+  ◌+◌,
+  ◌-◌,
+  ◌*◌,
+  ◌^◌,
+  ◌<◌,
+  ◌≤◌,
+  length,
+  slice_index,
+  slice_set,
+  IfOk,
+  IfSome,
+  IsTrue,
+  MatchOption,
+  false,
+  ◌↔◌,
+  if◌then◌else◌,
+  All,
+  map,
+  neg_ℤ,
+  pos,
+};
+ghost use Rattle.bp_residual.specs.Network.{
+  Priced,
+  IsPriced,
+  IsLifted,
+  step_of,
+  steps_of,
+  arcs,
+  tail,
+  head,
+  Admits,
+  IsCost,
+  IsFreeStep,
+  prices_of,
+  IsEmptyFlowOf,
+  greatest_rate,
+  forward_step,
+  capacity,
+  carried_by,
+  gain,
+  with_program,
+  with_rooms,
+  with_sold,
+  room_of,
+  IsSlack,
+  pushed,
+  sell_more,
+  sell_less,
+  spare_more,
+  spare_less,
+  greatest_spare,
+  FitsSpare,
+  Takes,
+  NamesArcsOnce,
+  pushed_along,
+};
 ghost use Rattle.bp_residual.specs.Index.{AreHopsAt};
 ghost use Rattle.bp_types.specs.Program.{worth, stay_at};
 ghost use Rattle.std.specs.List.{range_with_len};
@@ -7,6 +64,7 @@ ghost use Rattle.bp_types.specs.declared.limits.TheConstants.{MOST_UNITS, MOST_R
 ghost use Rattle.bp_types.specs.Changes.{changed, Fits};
 ghost use Rattle.bp_types.specs.declared.change.Change.TheVariants.{Rooms, Demand, Rate};
 
+use crate::alike::{is_alike, set_instance};
 use crate::lift::{level_potentials, lift_potentials};
 use crate::network::Network;
 use crate::rooms::{clear_rooms, set_rooms};
@@ -36,14 +94,22 @@ impl Model for Flow {
 
     ghost view = { λ a. record { flow = record { program = a.instance; sell = a.sell.items; spare = a.spare.items }; potentials = a.potentials.items } };
 
-    ghost invariant = { λ a. IsPriced (record { flow = record { program = a.instance; sell = a.sell.items; spare = a.spare.items }; potentials = a.potentials.items }) × AreEnds a.instance a.network };
+    ghost invariant = { λ a. IsPriced
+        (record {
+          flow = record { program = a.instance; sell = a.sell.items; spare = a.spare.items };
+          potentials =
+              a.potentials.items;
+        }) × AreEnds a.instance a.network };
 }
 
 /// The price of each night.
 fn prices(alloc: Global, potentials: &[u64]) -> Result<Vec<u64>, Memory>
     requires some { 0 < length potentials.now }
-    requires falls { (n : ℕ) → n < length potentials.now - 1 → slice_index potentials.now (n + 1) ≤ slice_index potentials.now n }
-    ensures { IfOk result (λ v. v.items ≡ map (λ n. slice_index potentials.now n - slice_index potentials.now (n + 1)) (range_with_len 0 (length potentials.now - 1))) }
+    requires falls { (n : ℕ) → n < length potentials.now - 1 →
+        slice_index potentials.now (n + 1) ≤ slice_index potentials.now n }
+    ensures { IfOk result (λ v. v.items ≡
+        map (λ n. slice_index potentials.now n - slice_index potentials.now (n + 1))
+        (range_with_len 0 (length potentials.now - 1))) }
 {
     let mut prices = Vec::new(alloc);
     for night in 0..potentials.len() - 1 {
@@ -103,6 +169,24 @@ impl Flow {
             potentials,
             network,
         })
+    }
+
+    /// Makes it the same in every value as another flow, without taking memory, where their instances have as many
+    /// nights, and stays of the same spans in the same order. Answers whether they have; else nothing changes. It takes
+    /// the time of a look at each stay and night.
+    pub fn set_to(&mut self, other: &Flow) -> bool
+        ensures set { IsTrue result → self.new ≡ other.now }
+        ensures not_set { result ≡ false → self.new ≡ self.old }
+        ensures nights { length self.new.flow.program.rooms ≡ length self.old.flow.program.rooms }
+    {
+        if !is_alike(&self.instance, &other.instance) {
+            return false;
+        }
+        set_instance(&mut self.instance, &other.instance);
+        self.sell.copy_from_slice(&other.sell);
+        self.spare.copy_from_slice(&other.spare);
+        self.potentials.copy_from_slice(&other.potentials);
+        true
     }
 
     /// How many nights there are.
@@ -212,14 +296,7 @@ impl Flow {
         requires { hop.arc < arcs self.now.flow.program }
         ensures { result ≡ tail self.now.flow.program (step_of self.now.flow.program hop) }
     {
-        let stays = self.instance.stays();
-        if hop.arc < stays {
-            let span = self.instance.stay(hop.arc).span;
-            if hop.forward { span.from } else { span.to }
-        } else {
-            let night = hop.arc - stays;
-            if hop.forward { night } else { night + 1 }
-        }
+        self.network.tail(hop)
     }
 
     /// The node that the hop reaches.
@@ -227,14 +304,7 @@ impl Flow {
         requires { hop.arc < arcs self.now.flow.program }
         ensures { result ≡ head self.now.flow.program (step_of self.now.flow.program hop) }
     {
-        let stays = self.instance.stays();
-        if hop.arc < stays {
-            let span = self.instance.stay(hop.arc).span;
-            if hop.forward { span.to } else { span.from }
-        } else {
-            let night = hop.arc - stays;
-            if hop.forward { night + 1 } else { night }
-        }
+        self.network.head(hop)
     }
 
     fn stay_cost(&self, stay: u32, forward: bool) -> Option<u128>
@@ -310,7 +380,8 @@ impl Flow {
     /// The ends of a night's hop, if it has room for a unit and reduced cost 0.
     fn night_way(&self, night: u32, forward: bool) -> Option<(u32, u32)>
         requires { night < length self.now.flow.program.rooms }
-        ensures { IfSome result (λ e. IsFreeStep self.now (if forward then spare_more night else spare_less night) e.0 e.1) }
+        ensures { IfSome result (λ e. IsFreeStep self.now (if forward then spare_more night else spare_less night)
+            e.0 e.1) }
     {
         let place = night as usize;
         if self.potentials[place] != self.potentials[place + 1] {
@@ -370,7 +441,8 @@ impl Flow {
     fn push_night(&mut self, night: u32, forward: bool, units: u64)
         requires admits { Admits self.old.flow (if forward then spare_more night else spare_less night) units }
         requires fits { FitsSpare self.old.flow (if forward then spare_more night else spare_less night) units }
-        ensures flow { self.new.flow ≡ pushed self.old.flow (if forward then spare_more night else spare_less night) units }
+        ensures flow { self.new.flow ≡
+            pushed self.old.flow (if forward then spare_more night else spare_less night) units }
         ensures potentials { self.new.potentials ≡ self.old.potentials }
     {
         let place = night as usize;
@@ -385,7 +457,8 @@ impl Flow {
     pub fn lift(&mut self, by: &[u128])
         requires one_each { length by.now ≡ length self.old.flow.program.rooms + 1 }
         requires small { All (λ x. x ≤ 10 ^ 30) by.now }
-        ensures potentials { IsLifted (length self.old.flow.program.rooms) self.old.potentials by.now self.new.potentials }
+        ensures potentials { IsLifted (length self.old.flow.program.rooms)
+            self.old.potentials by.now self.new.potentials }
         ensures flow { self.new.flow ≡ self.old.flow }
     {
         lift_potentials(&mut self.potentials, by);
@@ -463,10 +536,9 @@ impl Flow {
         self.instance.apply(Change::Rooms { span, up, units });
     }
 
-    /// Sets the rate of a stay that nobody asks for, in minor units of money.
+    /// Sets the rate of a stay, in minor units of money.
     pub fn set_rate(&mut self, stay: u32, rate: u64)
         requires stay { stay < length self.old.flow.program.stays }
-        requires unasked { (stay_at self.old.flow.program stay).forecast ≡ 0 }
         requires rate { (1 ≤ rate) × (rate ≤ MOST_RATE) }
         ensures { self.new ≡ with_program self.old (changed self.old.flow.program (Rate stay rate)) }
     {
@@ -500,9 +572,17 @@ impl Flow {
         self.instance.worth(&self.sell)
     }
 
+    /// The price of each night, in minor units of money.
+    pub fn prices(&self, alloc: Global) -> Result<Vec<u64>, Memory>
+        ensures { IfOk result (λ v. v.items ≡ prices_of self.now) }
+    {
+        prices(alloc, &self.potentials)
+    }
+
     /// The allocation, the prices, and the revenue as the value of both.
     pub fn certificate(&self, alloc: Global) -> Result<Certificate, Memory>
-        ensures { IfOk result (λ c. (c.value ≡ worth self.now.flow.program self.now.flow.sell) × (c.sell ≡ self.now.flow.sell) × (c.prices ≡ prices_of self.now)) }
+        ensures { IfOk result (λ c. (c.value ≡ worth self.now.flow.program self.now.flow.sell) ×
+            (c.sell ≡ self.now.flow.sell) × (c.prices ≡ prices_of self.now)) }
     {
         let sell = Vec::from_slice(alloc, &self.sell)?;
         let prices = prices(alloc, &self.potentials)?;

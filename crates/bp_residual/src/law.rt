@@ -3,7 +3,21 @@
 //! Sources: complementary slackness and successive shortest paths are standard results on linear programs
 //! and minimum-cost flows.
 
-ghost use Rattle.bp_residual.specs.Laws.{SlackFlowsAreOptimal, OptimalPricesAreSlack, PushKeepsSlack, LiftKeepsSlack, LimitKeepsSlack, PathsExist, GrowthBoundsPaths, ShortestPathsBecomeTight, PushMovesImbalance, PushMovesTheStart, PushMovesTheEnd, SettledPricesAreLeast, LeastPricesAreWithinRates};
+ghost use Rattle.bp_residual.specs.Laws.{
+  SlackFlowsAreOptimal,
+  OptimalPricesAreSlack,
+  PushKeepsSlack,
+  LiftKeepsSlack,
+  LimitKeepsSlack,
+  PathsExist,
+  GrowthBoundsPaths,
+  ShortestPathsBecomeTight,
+  PushMovesImbalance,
+  PushMovesTheStart,
+  PushMovesTheEnd,
+  SettledPricesAreLeast,
+  LeastPricesAreWithinRates,
+};
 
 /// Complementary slackness, one way: where no residual step has a negative reduced cost, the allocation of
 /// a balanced flow is worth the bound of the prices.

@@ -4,8 +4,19 @@
 //! of minus its rate, with the forecast as its room. A free arc leads over each night, and carries the
 //! rooms that nobody sleeps in. Stays are arcs 0 to M - 1, and the free arc of night n is arc M + n.
 //! Potentials fall by the price of each night, and end at 0.
+//!
+//! The flow that sells nothing, under prices at which no stay is worth more than its nights.
+//!
+//! ```
+//! let copy = copied(alloc)?;
+//! let certificate = copy.certificate(alloc)?;
+//! expect_certificate(&rt, &certificate, 0, &[0, 0], &[90, 90]);
+//! assert_eq!(rt; copy.arcs(), 4);
+//! assert_eq!(rt; copy.nights(), 2);
+//! ```
 #![tactic(auto)]
 
+mod alike;
 mod arc;
 mod flow;
 mod hop;

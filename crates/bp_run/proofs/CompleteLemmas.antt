@@ -45,7 +45,8 @@ never_refused shelf files told s one_way v first TooLong long =
     omega (arith, first.is_read.short, more)
 never_refused shelf files told s one_way v first (Reader e) (bytes, is_read, refuses) =
     let P : List ℕ → Type 0 = λ b. s.Refuses b e in
-    one_way.not_both first.bytes v e first.accepted (subst P (same_bytes files shelf.before.held told s one_way first.bytes bytes first.is_read is_read) refuses)
+    one_way.not_both first.bytes v e first.accepted
+    (subst P (same_bytes files shelf.before.held told s one_way first.bytes bytes first.is_read is_read) refuses)
 
 -- none of good files is refused
 pub not_refused : {A : Type 0} (shelf : Fetches) (files : Files) (Q : A → Type 0) (plan : Plan A) (first k : ℕ) (cause : Cause)
@@ -55,7 +56,8 @@ not_refused shelf files Q (ask s rest) first k cause told (here, later) (v, was_
     never_refused shelf files told s here v was_read cause refused
 not_refused shelf files Q (ask s rest) first k cause told (here, later) (v, was_read, good) (inr (w, read_too, comes)) =
     let P : s.Value → Type 0 = λ x. ComesAt shelf.before.held (IsRefusedFor shelf cause) (rest x) (first + 1) k in
-    not_refused shelf files Q (rest v) (first + 1) k cause told (later v) good (subst P (same_value files shelf.before.held told s here v w was_read read_too) comes)
+    not_refused shelf files Q (rest v) (first + 1) k cause told (later v) good
+    (subst P (same_value files shelf.before.held told s here v w was_read read_too) comes)
 
 -- what good files give is served
 pub given_is_served : {A : Type 0} (files : Files) (held : Option Files) (Q : A → Type 0) (plan : Plan A) (first next : ℕ) (a : A)
@@ -93,7 +95,8 @@ module _ (sound : (task : Task) → IsSound (command_of task)) where
       let P : Answer → Type 0 = λ a. status_number (answer_status a) ≤ 1 in
       subst P (sym of.is)
       ((sound task).ends given of.own
-      (given_is_served all.all shelf.before.held command.IsServed command.plan 1 of.answered.next given all.told (sound task).one_way (all.each task asks) of.answered.gives)
+      (given_is_served all.all shelf.before.held command.IsServed command.plan 1 of.answered.next given all.told (sound task).one_way (all.each task asks)
+      of.answered.gives)
       of.answered.right)
 
   -- every file of complete words is there

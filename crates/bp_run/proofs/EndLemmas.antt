@@ -1,6 +1,33 @@
 -- From the files of a command to the end of a call. The proof of a command cites `brings_stop` and `brings_answer`, that
 -- of the whole program `serves`, `serves_nothing` and `known`.
-use Rattle.std.proofs.Common.{◌≡◌, ◌≢◌, inl, inr, ℕ, ◌≤◌, ◌<◌, ◌⊎◌, Bool, true, false, refl, ap, sym, subst, ◌∙◌, arith, List, [], ◌∷◌, Option, None, Some, Result, Ok, Err}
+use Rattle.std.proofs.Common.{
+  ◌≡◌,
+  ◌≢◌,
+  inl,
+  inr,
+  ℕ,
+  ◌≤◌,
+  ◌<◌,
+  ◌⊎◌,
+  Bool,
+  true,
+  false,
+  refl,
+  ap,
+  sym,
+  subst,
+  ◌∙◌,
+  arith,
+  List,
+  [],
+  ◌∷◌,
+  Option,
+  None,
+  Some,
+  Result,
+  Ok,
+  Err,
+}
 use Rattle.std.specs.Prelude.{codes, if◌then◌else◌, IfOk}
 use Rattle.std.specs.List.{list_all}
 use Rattle.bp_cert.specs.declared.verdict.Verdict.{Verdict}
@@ -36,7 +63,20 @@ use Rattle.bp_run.specs.Judge.{ruling_status, ruling_command, replay_plan}
 use Rattle.bp_run.specs.Commands.{command_of, answer_status, IsPlainAnswer}
 use Rattle.bp_run.specs.Lines.{said, end_status}
 use Rattle.bp_run.specs.Puts.{Puts, Prints}
-use Rattle.bp_run.specs.Ends.{HasEnd, IsDeskOf, AreScenariosOf, five_names, HasStopped, IsPlainEnd, Outcome, HoldsAll, IsComplete, Serves, IsPortfolioOf}
+use Rattle.bp_run.specs.Ends.{
+  HasEnd,
+  IsDeskOf,
+  AreScenariosOf,
+  five_names,
+  HasStopped,
+  IsPlainEnd,
+  Outcome,
+  HoldsAll,
+  IsComplete,
+  HasTaskEnd,
+  Serves,
+  IsPortfolioOf,
+}
 use Rattle.bp_run.specs.declared.stop.Stop.{Stop}
 use Rattle.bp_run.specs.declared.stop.Stop.TheVariants as stops
 use Rattle.bp_run.specs.declared.status.Status.{Status}
@@ -53,7 +93,8 @@ use Rattle.bp_run.specs.declared.end.End.{End}
 use Rattle.bp_run.specs.declared.end.End.TheVariants.{NotPlain, Fault, Refused, Answered}
 
 -- a command whose files stop, stops
-pub brings_stop : (shelf : Fetches) (command : Command) (next : ℕ) (stop : Stop) → Follows shelf command.plan 1 next (Err stop) → Brings shelf command (Err stop)
+pub brings_stop : (shelf : Fetches) (command : Command) (next : ℕ) (stop : Stop) → Follows shelf command.plan 1 next (Err stop) →
+    Brings shelf command (Err stop)
 brings_stop shelf command next stop follows = record { stops = follows.answers; unfailing = follows.unfailing }
 
 -- a command whose files give something answers it
@@ -104,7 +145,8 @@ report_number (Tables text) = omega arith
 report_number (IllegalReport place rule) = omega arith
 
 -- a run is done or unfinished
-run_number : (whole : Bool) → (status_number (if whole then status.Done else status.Unfinished) ≤ 3) ⊎ (status_number (if whole then status.Done else status.Unfinished) ≡ 7)
+run_number : (whole : Bool) → (status_number (if whole then status.Done else status.Unfinished) ≤ 3) ⊎
+    (status_number (if whole then status.Done else status.Unfinished) ≡ 7)
 run_number true = inl (omega arith)
 run_number false = inr refl
 
@@ -130,7 +172,7 @@ plain_answer_number (Ran ran) plain = absurd plain
 plain_answer_number (Sheeted text) plain = omega arith
 plain_answer_number (Demonstrated text) plain = omega arith
 plain_answer_number (Reported answer) plain = let least = report_number answer in omega arith
-plain_answer_number (Foreseen outcomes) plain = absurd plain
+plain_answer_number (Foreseen outcomes) plain = omega arith
 plain_answer_number (RanAll runs) plain = absurd plain
 
 -- so no answer is a fault
@@ -216,7 +258,10 @@ module _ (words : List Word) (shelf : Fetches) (out : Puts) (end : End) (has : H
   at_end s (inr (inl (is, cut))) =
       let same : status_number s ≡ 5 = ap status_number is in record {
         done = λ not_cut not_empty. absurd (not_cut same);
-        cut_off = λ five. (cut.rose, record { number = status_number (end_status end); text = said end; outcome = outcome words shelf end has; written = cut.written });
+        cut_off = λ five. (
+          cut.rose,
+          record { number = status_number (end_status end); text = said end; outcome = outcome words shelf end has; written = cut.written },
+        );
         no_memory = λ six. absurd (omega arith);
         steady_shelf = λ steady holds four. omega arith;
         steady_sink = λ steady five. cut.unsteady steady;
@@ -236,7 +281,8 @@ module _ (words : List Word) (shelf : Fetches) (out : Puts) (end : End) (has : H
   serves s number is prints = let P : ℕ → Type 0 = λ n. Serves words shelf out n in subst P (sym is) (at_end s prints)
 
 -- a call that finds no memory before it writes
-pub serves_nothing : (words : List Word) (shelf : Fetches) (out : Puts) (number : ℕ) → number ≡ 6 → out.now.written ≡ out.before.written → Serves words shelf out number
+pub serves_nothing : (words : List Word) (shelf : Fetches) (out : Puts) (number : ℕ) → number ≡ 6 → out.now.written ≡ out.before.written →
+    Serves words shelf out number
 serves_nothing words shelf out number is same = record {
   done = λ not_cut not_empty. absurd (not_empty is);
   cut_off = λ five. absurd (omega arith);
@@ -247,7 +293,8 @@ serves_nothing words shelf out number is same = record {
 }
 
 -- a plain command is none that may start threads
-threads_apart : (first command : Word) → first ≡ command → (command ≡ codes "desk" → ⊥) → (command ≡ codes "scenarios" → ⊥) → (command ≡ codes "portfolio" → ⊥) → NamesThreads first → ⊥
+threads_apart : (first command : Word) → first ≡ command → (command ≡ codes "desk" → ⊥) → (command ≡ codes "scenarios" → ⊥) →
+    (command ≡ codes "portfolio" → ⊥) → NamesThreads first → ⊥
 threads_apart first command is not_desk not_scenarios not_portfolio names = elim names [
   | inl e ↦ not_desk (sym is ∙ e)
   | inr (inl e) ↦ not_scenarios (sym is ∙ e)
@@ -291,8 +338,8 @@ threads_task (first ∷ rest) (sheet p) may asks =
     let is : first ≡ codes "sheet" = cc in absurd (threads_apart first (codes "sheet") is (λ e. cc) (λ e. cc) (λ e. cc) may)
 threads_task (first ∷ rest) (portfolio list workers) may asks = inr (inr (list, workers, refl))
 
--- and those that run in one thread
-plain_task : (words : List Word) (task : Task) → (MayStartThreads words → ⊥) → Asks words task → IsPlainTask task
+-- and those that one thread can do
+pub plain_task : (words : List Word) (task : Task) → (MayStartThreads words → ⊥) → Asks words task → IsPlainTask task
 plain_task words (check p c) single asks = tt
 plain_task words (solve p) single asks = tt
 plain_task words (group p from to rooms) single asks = tt
@@ -301,7 +348,7 @@ plain_task words (desk names workers) single asks = single (subst MayStartThread
 plain_task words (replay names) single asks = tt
 plain_task words (report names) single asks = tt
 plain_task words (demo seed nights rooms stays) single asks = tt
-plain_task words (scenarios p changes) single asks = single (subst MayStartThreads (sym asks.0) (inr (inl refl)))
+plain_task words (scenarios p changes) single asks = tt
 plain_task words (sheet p) single asks = tt
 plain_task words (portfolio list workers) single asks = single (subst MayStartThreads (sym asks.words_are) (inr (inr refl)))
 
@@ -329,17 +376,30 @@ demo_numbers words (scenarios p changes) asks = tt
 demo_numbers words (sheet p) asks = tt
 demo_numbers words (portfolio list workers) asks = tt
 
--- words that ask for no task that runs so are not served
-pub not_plain_task : TasksAreUnique → (words : List Word) (task : Task) → (MayStartThreads words → ⊥) → Asks words task → (IsPlainTask task → ⊥) → AreServed words → ⊥
-not_plain_task unique words task single asks not_plain (t, asks_t) =
-    not_plain (subst IsPlainTask (unique words t task asks_t asks) (plain_task words t single asks_t))
-
-pub not_threads_task : TasksAreUnique → (words : List Word) (task : Task) → MayStartThreads words → Asks words task → (IsDesk task → ⊥) → (AreScenarios task → ⊥) → (IsPortfolio task → ⊥) → AreServed words → ⊥
+-- words that ask for no task that may start threads are not served, where their command may
+pub not_threads_task : TasksAreUnique → (words : List Word) (task : Task) → MayStartThreads words → Asks words task → (IsDesk task → ⊥) →
+    (AreScenarios task → ⊥) → (IsPortfolio task → ⊥) → AreServed words → ⊥
 not_threads_task unique words task may asks no_desk no_scenarios no_portfolio (t, asks_t) = elim (threads_task words t may asks_t) [
   | inl is ↦ no_desk (subst IsDesk (unique words t task asks_t asks) is)
   | inr (inl are) ↦ no_scenarios (subst AreScenarios (unique words t task asks_t asks) are)
   | inr (inr is) ↦ no_portfolio (subst IsPortfolio (unique words t task asks_t asks) is)
 ]
+
+-- a command that was stopped at a file, and the end of each line that asks for its task
+pub stopped_ends : {E : Type 0} (shelf : Fetches) (task : Task) (stop : Stop) (result : Result End E) → IsStopped shelf (command_of task) stop →
+    HasStopped stop result
+    → IfOk result (HasTaskEnd task shelf)
+stopped_ends shelf task stops.Memory (Ok end) is e = absurd (let no : false ≡ true = e in cc)
+stopped_ends shelf task stops.Memory (Err x) is e = tt
+stopped_ends shelf task (stops.Fault k) result is e = rw e (λ words asks. (task, asks, is.stops))
+stopped_ends shelf task (stops.Refused k cause) result is e = rw e (λ words asks. (task, asks, is.stops))
+
+-- so it is one that one thread comes to
+pub stopped_plain : {E : Type 0} (stop : Stop) (result : Result End E) → HasStopped stop result → IfOk result IsPlainEnd
+stopped_plain stops.Memory (Ok end) e = absurd (let no : false ≡ true = e in cc)
+stopped_plain stops.Memory (Err x) e = tt
+stopped_plain (stops.Fault k) result e = rw e tt
+stopped_plain (stops.Refused k cause) result e = rw e tt
 
 -- a command that was stopped at a file, and the end of its call
 module _ {E : Type 0} (words : List Word) (shelf : Fetches) (task : Task) (asks : Asks words task) where
@@ -356,15 +416,10 @@ module _ {E : Type 0} (words : List Word) (shelf : Fetches) (task : Task) (asks 
   stopped_unfailing (stops.Fault k) result is e steady holds = absurd (is.unfailing steady holds.files holds.told (holds.each task asks) tt)
   stopped_unfailing (stops.Refused k cause) result is e steady holds = rw e (λ same. cc)
 
-  pub stopped_plain : (stop : Stop) (result : Result End E) → HasStopped stop result → IfOk result IsPlainEnd
-  stopped_plain stops.Memory (Ok end) e = absurd (let no : false ≡ true = e in cc)
-  stopped_plain stops.Memory (Err x) e = tt
-  stopped_plain (stops.Fault k) result e = rw e tt
-  stopped_plain (stops.Refused k cause) result e = rw e tt
-
 -- the line of a desk, and the end of its call
 module _ (words : List Word) (shelf : Fetches) (task : Task) (line : DeskLine) (asks : Asks words task) (is : IsDeskOf task line) where
-  pub ran_has : (ran : RanValue) → IsAnswered shelf.before.held (desk_command (named line.hotel) line.script.now line.workers) ran → HasEnd words shelf (Answered (Ran ran))
+  pub ran_has : (ran : RanValue) → IsAnswered shelf.before.held (desk_command (named line.hotel) line.script.now line.workers) ran →
+      HasEnd words shelf (Answered (Ran ran))
   ran_has ran answered =
       let P : Task → Type 0 = λ t. IsAnswerOf shelf.before.held (command_of t) (Ran ran) in
       (task, asks, subst P (sym is) (record { own = ran; is = refl; answered = answered }))
@@ -374,7 +429,8 @@ module _ (words : List Word) (shelf : Fetches) (task : Task) (line : DeskLine) (
 
 -- the line of scenarios, and the end of its call
 module _ (words : List Word) (shelf : Fetches) (task : Task) (line : ScenariosLine) (asks : Asks words task) (are : AreScenariosOf task line) where
-  pub foreseen_has : (outcomes : List ScenarioOutcome) → IsAnswered shelf.before.held (scenarios_command line.problem.now line.changes.now) outcomes → HasEnd words shelf (Answered (Foreseen outcomes))
+  pub foreseen_has : (outcomes : List ScenarioOutcome) → IsAnswered shelf.before.held (scenarios_command line.problem.now line.changes.now) outcomes →
+      HasEnd words shelf (Answered (Foreseen outcomes))
   foreseen_has outcomes answered =
       let P : Task → Type 0 = λ t. IsAnswerOf shelf.before.held (command_of t) (Foreseen outcomes) in
       (task, asks, subst P (sym are) (record { own = outcomes; is = refl; answered = answered }))
@@ -394,7 +450,8 @@ few_workers words task line asks is =
 
 -- the line of a portfolio, and the end of its call
 module _ (words : List Word) (shelf : Fetches) (task : Task) (line : PortfolioLine) (asks : Asks words task) (is : IsPortfolioOf task line) where
-  pub ran_all_has : (runs : List RanValue) → IsAnswered shelf.before.held (portfolio_command line.list.now line.workers) runs → HasEnd words shelf (Answered (RanAll runs))
+  pub ran_all_has : (runs : List RanValue) → IsAnswered shelf.before.held (portfolio_command line.list.now line.workers) runs →
+      HasEnd words shelf (Answered (RanAll runs))
   ran_all_has runs answered =
       let P : Task → Type 0 = λ t. IsAnswerOf shelf.before.held (command_of t) (RanAll runs) in
       (task, asks, subst P (sym is) (record { own = runs; is = refl; answered = answered }))

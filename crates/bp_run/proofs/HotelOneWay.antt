@@ -30,7 +30,8 @@ stays_one_way season name = record { one_value = λ bytes v w a b. cc; not_both 
 forecast_one_way : (stays : StayList) (name : Word) → IsReadOneWay (forecast_of_stays stays name)
 forecast_one_way stays name = record { one_value = λ bytes v w a b. cc; not_both = never }
   where
-    never : (bytes : List ℕ) (v : StayList) (e : FileError) → (forecast_of_stays stays name).Accepts bytes v → (forecast_of_stays stays name).Refuses bytes e → ⊥
+    never : (bytes : List ℕ) (v : StayList) (e : FileError) → (forecast_of_stays stays name).Accepts bytes v →
+        (forecast_of_stays stays name).Refuses bytes e → ⊥
     never bytes v (Text e) a refused = refused
     never bytes v (Hotel e) a refused = refused
     never bytes v (Table e) a refused = cc
@@ -38,7 +39,8 @@ forecast_one_way stays name = record { one_value = λ bytes v w a b. cc; not_bot
 bookings_one_way : (season : Season) (stays : StayList) (name : Word) → IsReadOneWay (bookings_of_hotel season stays name)
 bookings_one_way season stays name = record { one_value = λ bytes v w a b. cc; not_both = never }
   where
-    never : (bytes : List ℕ) (v : List ℕ) (e : FileError) → (bookings_of_hotel season stays name).Accepts bytes v → (bookings_of_hotel season stays name).Refuses bytes e → ⊥
+    never : (bytes : List ℕ) (v : List ℕ) (e : FileError) → (bookings_of_hotel season stays name).Accepts bytes v →
+        (bookings_of_hotel season stays name).Refuses bytes e → ⊥
     never bytes v (Text e) a refused = refused
     never bytes v (Hotel e) a refused = refused
     never bytes v (Table e) a refused = cc
@@ -57,7 +59,8 @@ hotel_plan_one_way names = (
 pub script_one_way : (season : Season) (codes : List (List ℕ)) (name : Word) → IsReadOneWay (script_of_hotel season codes name)
 script_one_way season codes name = record { one_value = λ bytes v w a b. cc; not_both = never }
   where
-    never : (bytes : List ℕ) (v : List (List Command)) (e : FileError) → (script_of_hotel season codes name).Accepts bytes v → (script_of_hotel season codes name).Refuses bytes e → ⊥
+    never : (bytes : List ℕ) (v : List (List Command)) (e : FileError) → (script_of_hotel season codes name).Accepts bytes v →
+        (script_of_hotel season codes name).Refuses bytes e → ⊥
     never bytes v (Text e) a refused = refused
     never bytes v (Hotel e) a refused = refused
     never bytes v (Table e) a refused = cc

@@ -14,5 +14,5 @@ pub mod Replays
 pub mod HotelHouse
 -- what each kind of file and each command owes to completeness
 pub mod SoundCommands
+
 -- from the files of a line of scenarios to its end, in one thread
-pub mod AloneLemmas

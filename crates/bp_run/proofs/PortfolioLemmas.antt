@@ -2,7 +2,8 @@
 use Rattle.std.proofs.Common.{◌≡◌, ℕ, ◌+◌, ◌*◌, ◌≤◌, refl, sym, subst, ap, ◌∙◌, arith, List, [], ◌∷◌, ◌++◌, length, Result, Ok, Err}
 use Rattle.bp_desk_run.specs.declared.callers.Ran.{Ran}
 use Rattle.bp_portfolio.specs.Lists.{FiveNames}
-use Rattle.bp_portfolio.specs.Desks.{Staged, AreRightRuns}
+use Rattle.bp_desk_run.specs.RightRun.{Staged}
+use Rattle.bp_portfolio.specs.Desks.{AreRightRuns}
 use Rattle.bp_cli.specs.Words.{Word}
 use Rattle.bp_run.specs.HotelPlan.{HotelNames}
 use Rattle.bp_run.specs.Desk.{desk_plan}
@@ -19,8 +20,10 @@ no_hotel_left at front [] first none = follows_made _ front front first (first +
 no_hotel_left at front (n ∷ names) first none = absurd (omega (arith, none))
 
 -- the names of the next hotel, as the call has them
-module _ (front : List Staged) (names behind : List FiveNames) (n : FiveNames) (given : HotelNames) (script : Word) (are : names ≡ n ∷ behind) (four : given ≡ four_names n) (last : script ≡ n.script) where
-  as_given : (old new : Shelved) (first next : ℕ) (result : Result Staged Stop) → Follows (record { before = old; now = new }) (desk_plan given script) first next result
+module _ (front : List Staged) (names behind : List FiveNames) (n : FiveNames) (given : HotelNames) (script : Word) (are : names ≡ n ∷ behind) (four : given ≡
+    four_names n) (last : script ≡ n.script) where
+  as_given : (old new : Shelved) (first next : ℕ) (result : Result Staged Stop) →
+      Follows (record { before = old; now = new }) (desk_plan given script) first next result
       → Follows (record { before = old; now = new }) (desk_plan (four_names n) n.script) first next result
   as_given old new first next result follows =
       let P : HotelNames → Type 0 = λ x. Follows (record { before = old; now = new }) (desk_plan x script) first next result in
@@ -28,11 +31,13 @@ module _ (front : List Staged) (names behind : List FiveNames) (n : FiveNames) (
       subst Q last (subst P four follows)
 
   -- one of its files gave no value
-  pub hotel_stops : (old new : Shelved) (first middle next : ℕ) (stop : Stop) → Follows (record { before = old; now = new }) (desk_plan given script) first middle (Err stop)
+  pub hotel_stops : (old new : Shelved) (first middle next : ℕ) (stop : Stop) →
+      Follows (record { before = old; now = new }) (desk_plan given script) first middle (Err stop)
       → Follows (record { before = old; now = new }) (desks_plan front names) first next (Err stop)
   hotel_stops old new first middle next stop follows =
       let P : List FiveNames → Type 0 = λ xs. Follows (record { before = old; now = new }) (desks_plan front xs) first next (Err stop) in
-      subst P (sym are) (follows_first _ (desk_plan (four_names n) n.script) (λ g. desks_plan (front ++ g ∷ []) behind) first middle next stop (as_given old new first middle (Err stop) follows))
+      subst P (sym are) (follows_first _ (desk_plan (four_names n) n.script) (λ g. desks_plan (front ++ g ∷ []) behind) first middle next stop
+      (as_given old new first middle (Err stop) follows))
 
   -- they gave what its desk is to run, and the hotels behind it follow
   pub hotel_then : (old mid new : Shelved) (first middle start next end : ℕ) (g : Staged) (hotels : List Staged) (result : Result (List Staged) Stop)
@@ -57,8 +62,10 @@ as_many_runs workers (g ∷ hotels) [] right = absurd right
 as_many_runs workers (g ∷ hotels) (ran ∷ runs) right = let rest = as_many_runs workers hotels runs right.1 in omega (arith, rest)
 
 -- the first hotel has none before it
-pub from_none : (old new : Shelved) (front : List Staged) (given names : List FiveNames) (first next : ℕ) (result : Result (List Staged) Stop) → front ≡ [] → given ≡ names
-    → Follows (record { before = old; now = new }) (desks_plan front given) first next result → Follows (record { before = old; now = new }) (desks_plan [] names) first next result
+pub from_none : (old new : Shelved) (front : List Staged) (given names : List FiveNames) (first next : ℕ) (result : Result (List Staged) Stop) → front ≡ [] →
+    given ≡ names
+    → Follows (record { before = old; now = new }) (desks_plan front given) first next result →
+    Follows (record { before = old; now = new }) (desks_plan [] names) first next result
 from_none old new front given names first next result none are follows =
     let P : List Staged → Type 0 = λ gs. Follows (record { before = old; now = new }) (desks_plan gs given) first next result in
     let Q : List FiveNames → Type 0 = λ ns. Follows (record { before = old; now = new }) (desks_plan [] ns) first next result in

@@ -21,7 +21,7 @@ use Rattle.bp_run.specs.HotelFiles.{hotel_file, stays_of_hotel, forecast_of_stay
 use Rattle.bp_run.specs.JournalFiles.{journal_file}
 use Rattle.bp_run.specs.Command.{IsAnswered}
 use Rattle.bp_run.specs.Judge.{Charge, IsRuling, ruling_command, journal_plan, replay_plan}
-use Rattle.bp_portfolio.specs.Desks.{Staged}
+use Rattle.bp_desk_run.specs.RightRun.{Staged}
 use Rattle.bp_run.specs.Desk.{script_plan, desk_command, run_said}
 use Rattle.bp_run.specs.Laws.{HoldOneHotel, RunsAreLegal}
 use Rattle.bp_run.specs.declared.house.OpenHotel.{OpenHotel}
@@ -46,7 +46,8 @@ record Parts {A B : Type 0} (held : Option Files) (plan : Plan A) (after : A →
   early : Gives held plan first middle a
   late : Gives held (after a) middle next b
 
-gives_apart : {A B : Type 0} (held : Option Files) (plan : Plan A) (after : A → Plan B) (first next : ℕ) (b : B) → Gives held (followed_by plan after) first next b → Parts held plan after first next b
+gives_apart : {A B : Type 0} (held : Option Files) (plan : Plan A) (after : A → Plan B) (first next : ℕ) (b : B) →
+    Gives held (followed_by plan after) first next b → Parts held plan after first next b
 gives_apart held (done x) after first next b gives = record { a = x; middle = first; early = (refl, refl); late = gives }
 gives_apart held (ask s rest) after first next b (v, was_read, gives) =
     let parts = gives_apart held (rest v) after (first + 1) next b gives in
@@ -62,7 +63,8 @@ same_read files s v w one first second =
     let P : List ℕ → Type 0 = λ b. s.Accepts b w in
     one first.bytes v w first.accepted (subst P same second.accepted)
 
-gives_same : {A : Type 0} (files : Files) (plan : Plan A) (first m n : ℕ) (a b : A) → AreReadOneWay plan → Gives (Some files) plan first m a → Gives (Some files) plan first n b → a ≡ b
+gives_same : {A : Type 0} (files : Files) (plan : Plan A) (first m n : ℕ) (a b : A) → AreReadOneWay plan → Gives (Some files) plan first m a →
+    Gives (Some files) plan first n b → a ≡ b
 gives_same files (done x) first m n a b one_way (is, p) (is_too, q) = sym is ∙ is_too
 gives_same {A} files (ask s rest) first m n a b (here, later) (v, read_v, gives) (w, read_w, gives_too) =
     let P : s.Value → Type 0 = λ x. Gives (Some files) (rest x) (first + 1) n b in
@@ -97,7 +99,8 @@ hotel_here before later names first next inn alike (season, hotel_read, (listed,
 )
 
 -- their house keeps to every limit
-hotel_is_house : LawsBelow → (held : Option Files) (names : HotelNames) (first next : ℕ) (inn : OpenHotel) → Gives held (hotel_plan names) first next inn → IsHouse inn.house
+hotel_is_house : LawsBelow → (held : Option Files) (names : HotelNames) (first next : ℕ) (inn : OpenHotel) → Gives held (hotel_plan names) first next inn →
+    IsHouse inn.house
 hotel_is_house laws held names first next inn (season, hotel_read, (listed, listed_read, (stays, stays_read, (sold, sold_read, (is, same))))) =
     let is_season = laws.seasons hotel_read.bytes season hotel_read.accepted in
     let first_list = laws.stays season listed_read.bytes listed listed_read.accepted in
@@ -109,7 +112,8 @@ hotel_is_house laws held names first next inn (season, hotel_read, (listed, list
     subst P is (house_from_no_refusal season.rooms sold stays.stays season.limits (laws.houses season stays.stays sold is_season are fits))
 
 -- a ruling on legal lines
-legal_ruling : LawsBelow → (h : Inn) (H : History) (ruling : Ruling) → IsLegal h H → IsRuling (record { house = h; lines = H }) ruling → ruling ≡ Legal (length H)
+legal_ruling : LawsBelow → (h : Inn) (H : History) (ruling : Ruling) → IsLegal h H → IsRuling (record { house = h; lines = H }) ruling →
+    ruling ≡ Legal (length H)
 legal_ruling laws h H (Legal entries) legal right = ap Legal right.1
 legal_ruling laws h H (Illegal place rule) legal right = absurd (laws.not_both h H place rule legal right)
 
@@ -117,15 +121,19 @@ pub runs_are_legal : LawsBelow → RunsAreLegal
 runs_are_legal laws before later names script journal workers ran ruling alike holds desk replay =
     let run = gives_apart (Some before) (hotel_plan names) (λ (inn : OpenHotel). script_plan script inn) 1 desk.next desk.given desk.gives in
     let judged = gives_apart (Some later) (hotel_plan names) (λ (inn : OpenHotel). journal_plan journal inn.house) 1 replay.next replay.given replay.gives in
-    let inn : judged.a ≡ run.a = gives_same before (hotel_plan names) 1 judged.middle run.middle judged.a run.a (hotel_plan_one_way names) (hotel_here before later names 1 judged.middle judged.a alike judged.early) run.early in
+    let inn : judged.a ≡ run.a =
+    gives_same before (hotel_plan names) 1 judged.middle run.middle judged.a run.a (hotel_plan_one_way names)
+    (hotel_here before later names 1 judged.middle judged.a alike judged.early) run.early in
     let (scripts, scripts_read, (run_is, run_next)) = run.late in
     let (H, journal_read, (judged_is, judged_next)) = judged.late in
     let opened : run.a.house ≡ desk.given.house = ap (λ (g : Staged). g.house) run_is in
     let house : judged.a.house ≡ desk.given.house = ap (λ (o : OpenHotel). o.house) inn ∙ opened in
     let is_house : IsHouse desk.given.house = subst IsHouse opened (hotel_is_house laws (Some before) names 1 run.middle run.a run.early) in
-    let text : journal_read.bytes ≡ journal_text ran.book.history = (let x : get later journal ≡ Some journal_read.bytes = journal_read.is_read.told later refl in cc) in
+    let text : journal_read.bytes ≡ journal_text ran.book.history =
+    (let x : get later journal ≡ Some journal_read.bytes = journal_read.is_read.told later refl in cc) in
     let read_as = subst (λ (b : List ℕ). IsJournalText b (Ok H)) text journal_read.accepted in
-    let lines : H ≡ ran.book.history = (let same = laws.written desk.given.house ran.book.history (Ok H) is_house desk.right.run.legal (λ e. cc) read_as in cc) in
+    let lines : H ≡ ran.book.history =
+    (let same = laws.written desk.given.house ran.book.history (Ok H) is_house desk.right.run.legal (λ e. cc) read_as in cc) in
     let right = subst (λ (g : Charge). IsRuling g ruling) (sym judged_is) replay.right in
     let on_house = subst (λ (h : Inn). IsRuling (record { house = h; lines = H }) ruling) house right in
     let on_lines = subst (λ (L : History). IsRuling (record { house = desk.given.house; lines = L }) ruling) lines on_house in

@@ -29,7 +29,7 @@ use Rattle.bp_run.specs.Stages.{Plan, done, ask, followed_by, IsReadOneWay, AreR
 use Rattle.bp_run.specs.TextFiles.{IsNoText, problem_file, certificate_file}
 use Rattle.bp_run.specs.ScenarioFiles.{scenarios_file}
 use Rattle.bp_run.specs.JournalFiles.{journal_file, IsNoJournal}
-use Rattle.bp_portfolio.specs.Desks.{Staged}
+use Rattle.bp_desk_run.specs.RightRun.{Staged}
 use Rattle.bp_run.specs.ListFiles.{list_file, IsNoList}
 use Rattle.bp_run.specs.Desk.{script_plan, desk_plan}
 use Rattle.bp_run.specs.Portfolio.{four_names, desks_plan}
@@ -104,27 +104,33 @@ list_one_way law name = record { one_value = one_value; not_both = never }
     never bytes v (Table e) a refused = refused
 
 -- a plan of files that are read in one way, and behind it another
-one_way_then : {A B : Type 0} (plan : Plan A) (after : A → Plan B) → AreReadOneWay plan → ((a : A) → AreReadOneWay (after a)) → AreReadOneWay (followed_by plan after)
+one_way_then : {A B : Type 0} (plan : Plan A) (after : A → Plan B) → AreReadOneWay plan → ((a : A) → AreReadOneWay (after a)) →
+    AreReadOneWay (followed_by plan after)
 one_way_then (done x) after first next = next x
 one_way_then (ask s rest) after (here, later) next = (here, λ v. one_way_then (rest v) after (later v) next)
 
 -- so it is with the five files of a desk, and with those of each hotel of a portfolio
 desk_one_way : (names : HotelNames) (script : Word) → AreReadOneWay (desk_plan names script)
-desk_one_way names script = one_way_then {B = Staged} (hotel_plan names) (λ inn. script_plan script inn) (hotel_plan_one_way names) (λ inn. (script_one_way inn.hotel inn.stays.codes script, λ w. tt))
+desk_one_way names script =
+    one_way_then {B = Staged} (hotel_plan names) (λ inn. script_plan script inn) (hotel_plan_one_way names)
+    (λ inn. (script_one_way inn.hotel inn.stays.codes script, λ w. tt))
 
 desks_one_way : (front : List Staged) (hotels : List FiveNames) → AreReadOneWay (desks_plan front hotels)
 desks_one_way front [] = tt
 desks_one_way front (n ∷ hotels) =
-    one_way_then {B = List Staged} (desk_plan (four_names n) n.script) (λ g. desks_plan (front ++ g ∷ []) hotels) (desk_one_way (four_names n) n.script) (λ g. desks_one_way (front ++ g ∷ []) hotels)
+    one_way_then {B = List Staged} (desk_plan (four_names n) n.script) (λ g. desks_plan (front ++ g ∷ []) hotels) (desk_one_way (four_names n) n.script)
+    (λ g. desks_one_way (front ++ g ∷ []) hotels)
 
 -- where each night of a span has the units, none is short
-short_of_none : (p : Program) (span : Span) (units night : ℕ) → IsSpanWithin (length p.rooms) span × HasUnits p span units → first_short (slice_index p.rooms) span units ≡ Some night → ⊥
+short_of_none : (p : Program) (span : Span) (units night : ℕ) → IsSpanWithin (length p.rooms) span × HasUnits p span units →
+    first_short (slice_index p.rooms) span units ≡ Some night → ⊥
 short_of_none p span units night (is_span, has) found =
     let first = first_passes (λ n. nat_lt (slice_index p.rooms n) units) span.from (span.to - span.from) night found in
     omega (arith, has night first.above (omega (arith, first.below, is_span.0)), ltb-true (slice_index p.rooms night) units first.passes)
 
 -- a group whose nights are there and have the rooms is quoted
-group_ends : (p : Program) (span : Span) (rooms : ℕ) (answer : GroupAnswer) → IsSpanWithin (length p.rooms) span × HasUnits p span rooms → IsGroupAnswer p span rooms answer
+group_ends : (p : Program) (span : Span) (rooms : ℕ) (answer : GroupAnswer) → IsSpanWithin (length p.rooms) span × HasUnits p span rooms →
+    IsGroupAnswer p span rooms answer
     → status_number (group_status answer) ≤ 1
 group_ends p span rooms (Quoted displacement before after) served is = omega arith
 group_ends p span rooms BadSpan served is = absurd (is served.0)
@@ -136,7 +142,8 @@ whole_ends true is = omega arith
 whole_ends false is = absurd (cc)
 
 -- and so are several, each of which is whole
-all_whole : (workers : ℕ) (hotels : List Staged) (runs : List Ran) → HaveRoom hotels → AreRightRuns workers hotels runs → list_all (λ (ran : Ran). ran.whole) runs ≡ true
+all_whole : (workers : ℕ) (hotels : List Staged) (runs : List Ran) → HaveRoom hotels → AreRightRuns workers hotels runs →
+    list_all (λ (ran : Ran). ran.whole) runs ≡ true
 all_whole workers [] [] room right = refl
 all_whole workers [] (ran ∷ runs) room right = absurd right
 all_whole workers (g ∷ hotels) [] room right = absurd right
@@ -166,11 +173,15 @@ sound law (desk names workers) = record {
   ends = λ g ran served right. whole_ends ran.whole (right.room served);
 }
 sound law (replay names) = record {
-  one_way = one_way_then {B = Charge} (hotel_plan (hotel_names names)) (λ inn. journal_plan names.last inn.house) (hotel_plan_one_way (hotel_names names)) (λ inn. (journal_one_way law names.last, λ w. tt));
+  one_way = one_way_then {B =
+      Charge} (hotel_plan (hotel_names names)) (λ inn. journal_plan names.last inn.house) (hotel_plan_one_way (hotel_names names))
+      (λ inn. (journal_one_way law names.last, λ w. tt));
   ends = λ g ruling served right. ruling_number ruling;
 }
 sound law (report names) = record {
-  one_way = one_way_then {B = Told} (hotel_plan (hotel_names names)) (λ inn. told_plan names.last inn) (hotel_plan_one_way (hotel_names names)) (λ inn. (journal_one_way law names.last, λ w. tt));
+  one_way = one_way_then {B =
+      Told} (hotel_plan (hotel_names names)) (λ inn. told_plan names.last inn) (hotel_plan_one_way (hotel_names names))
+      (λ inn. (journal_one_way law names.last, λ w. tt));
   ends = λ g answer served right. report_number answer;
 }
 sound law (demo seed nights rooms stays) = record {

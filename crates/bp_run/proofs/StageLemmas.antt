@@ -94,7 +94,8 @@ module _ (old mid new : Shelved) (early : Leaves (moments old mid)) where
 
   refused_both : (cause : Cause) (s : Stage) → IsRefusedFor (moments mid new) cause s → IsRefusedFor (moments old new) cause s
   refused_both TooLong s long = record {
-    told = (let P : Option Files → Type 0 = λ h. ForSome h (λ files. IsSomeAnd (get files s.name) (λ bytes. s.most < length bytes)) in subst P early.held long.told);
+    told = (let P : Option Files → Type 0 = λ h. ForSome h (λ files. IsSomeAnd (get files s.name) (λ bytes. s.most < length bytes)) in
+        subst P early.held long.told);
     rose = omega (arith, early.fetches, long.rose);
     named = long.named;
     more = long.more;
@@ -140,7 +141,8 @@ follows_both old mid new plan after first middle next a (Err stop) early late = 
   leaves = leaves_both old mid new early.leaves late.leaves;
 }
 
-stops_first : {A B : Type 0} (shelf : Fetches) (plan : Plan A) (after : A → Plan B) (first : ℕ) (stop : Stop) → StopsIn shelf plan first stop → StopsIn shelf (followed_by plan after) first stop
+stops_first : {A B : Type 0} (shelf : Fetches) (plan : Plan A) (after : A → Plan B) (first : ℕ) (stop : Stop) → StopsIn shelf plan first stop →
+    StopsIn shelf (followed_by plan after) first stop
 stops_first shelf plan after first Memory stops = tt
 stops_first shelf plan after first (Fault k) stops = comes_in shelf.before.held after (λ s. Fails shelf s.name) plan first k stops
 stops_first shelf plan after first (Refused k cause) stops = comes_in shelf.before.held after (IsRefusedFor shelf cause) plan first k stops
@@ -155,7 +157,8 @@ follows_first shelf plan after first middle next stop early = record {
 }
 
 -- a file that gave its value, and then the stages that rest on it
-pub follows_stage : {B : Type 0} {old mid new : Shelved} (s : Stage) (rest : s.Value → Plan B) (first middle start next : ℕ) (v : s.Value) (result : Result B Stop)
+pub follows_stage : {B : Type 0} {old mid new : Shelved} (s : Stage) (rest : s.Value →
+    Plan B) (first middle start next : ℕ) (v : s.Value) (result : Result B Stop)
     → middle ≡ start
     → Follows (record { before = old; now = mid }) (one s) first middle (Ok v)
     → Follows (record { before = mid; now = new }) (rest v) start next result
@@ -170,13 +173,15 @@ pub follows_stop : {B : Type 0} {shelf : Fetches} (s : Stage) (rest : s.Value �
 follows_stop {B} {shelf} s rest first middle next stop early = follows_first shelf (one s) rest first middle next stop early
 
 -- want of memory behind the last file
-pub follows_nothing : {A : Type 0} (shelf : Fetches) (plan : Plan A) (first next : ℕ) (stop : Stop) → stop ≡ Memory → Leaves shelf → Follows shelf plan first next (Err stop)
+pub follows_nothing : {A : Type 0} (shelf : Fetches) (plan : Plan A) (first next : ℕ) (stop : Stop) → stop ≡ Memory → Leaves shelf →
+    Follows shelf plan first next (Err stop)
 follows_nothing shelf plan first next stop is leaves =
     let P : Stop → Type 0 = λ s. Follows shelf plan first next (Err s) in
     subst P (sym is) (record { answers = tt; unfailing = λ steady files e holds fault. fault; leaves = leaves })
 
 -- behind the last file: what the values make
-pub follows_made : {A : Type 0} (shelf : Fetches) (made a : A) (first next : ℕ) → made ≡ a → first ≡ next → Leaves shelf → Follows shelf (done made) first next (Ok a)
+pub follows_made : {A : Type 0} (shelf : Fetches) (made a : A) (first next : ℕ) → made ≡ a → first ≡ next → Leaves shelf →
+    Follows shelf (done made) first next (Ok a)
 follows_made shelf made a first next is same leaves = record { answers = (is, same); unfailing = tt; leaves = leaves }
 
 -- a call that touches no file
@@ -184,5 +189,6 @@ pub leaves_same : (at : Shelved) → Leaves (record { before = at; now = at })
 leaves_same at = record { held = refl; steady = λ s. s; faults = omega arith; fetches = omega arith }
 
 -- want of memory behind a plan that gave its value
-pub follows_then_nothing : {A : Type 0} (shelf : Fetches) (plan : Plan A) (first next : ℕ) (a : A) (stop : Stop) → stop ≡ Memory → Follows shelf plan first next (Ok a) → Follows shelf plan first next (Err stop)
+pub follows_then_nothing : {A : Type 0} (shelf : Fetches) (plan : Plan A) (first next : ℕ) (a : A) (stop : Stop) → stop ≡ Memory →
+    Follows shelf plan first next (Ok a) → Follows shelf plan first next (Err stop)
 follows_then_nothing shelf plan first next a stop is follows = follows_nothing shelf plan first next stop is follows.leaves

@@ -68,5 +68,5 @@ IsPlainAnswer (Ran ran) = ⊥
 IsPlainAnswer (Sheeted text) = Unit {0}
 IsPlainAnswer (Reported answer) = Unit {0}
 IsPlainAnswer (Demonstrated text) = Unit {0}
-IsPlainAnswer (Foreseen outcomes) = ⊥
+IsPlainAnswer (Foreseen outcomes) = Unit {0}
 IsPlainAnswer (RanAll runs) = ⊥

@@ -1,15 +1,15 @@
 -- `desk`: the sessions of a script and optimisers beside them on one desk, down to the text of its one history.
 --
--- What is said of the closed desk is `IsRightRun` of the crate `bp_portfolio`; what a history is that such a run may leave,
--- and when it is complete, closed or cut, is said in `DeskRun` of the crate `bp_desk_run`, in the words of the desk alone.
+-- What is said of the closed desk is `IsRightRun` of the crate `bp_desk_run`; what a history is that such a run may leave,
+-- and when it is complete, closed or cut, is said in `DeskRun` of that crate, in the words of the desk alone.
 use Rattle.std.specs.Prelude.{◌≡◌, ℕ, ◌+◌, ◌/◌, ◌≤◌, true, false, if◌then◌else◌, List}
 use Rattle.bp_types.specs.House.{Inn}
 use Rattle.bp_types.specs.declared.command.Command.{Command}
 use Rattle.bp_core.specs.Lines.{History, vectors}
 use Rattle.bp_journal.specs.Journals.{journal_text}
 use Rattle.bp_desk_run.specs.DeskRun.{IsDeskRun, IsComplete, IsClosed, IsCut, HasRoomFor, all_commands, lead_of}
+use Rattle.bp_desk_run.specs.RightRun.{Staged, IsRightRun}
 use Rattle.bp_desk_run.specs.declared.callers.Ran.{Ran}
-use Rattle.bp_portfolio.specs.Desks.{Staged, IsRightRun}
 use Rattle.bp_cli.specs.Words.{Word}
 use Rattle.bp_run.specs.Stages.{Plan, done, ask, followed_by}
 use Rattle.bp_run.specs.HotelPlan.{HotelNames, hotel_plan}

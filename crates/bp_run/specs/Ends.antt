@@ -33,6 +33,10 @@ HasEnd words shelf (Refused file cause) =
 HasEnd words shelf (Answered answer) =
     (task : Task) × Asks words task × IsAnswerOf shelf.before.held (command_of task) answer
 
+-- an end of each line that asks for this task
+abbrev pub HasTaskEnd : Task → Fetches → End → Type 0
+HasTaskEnd task shelf end = (words : List Word) → Asks words task → HasEnd words shelf end
+
 -- how a call ends that was stopped at a file
 abbrev pub HasStopped : {E : Type 0} → Stop → Result End E → Type 0
 HasStopped stop.Memory result = IsErr result
@@ -109,6 +113,14 @@ pub record Serves (words : List Word) (shelf : Fetches) (out : Puts) (number : �
   pub steady_sink : out.before.steady → number ≢ status_number status.CutOff
   pub complete : shelf.before.steady → out.before.steady → IsComplete words shelf.before.held
       → (number ≤ status_number status.Wrong) ⊎ (number ≡ status_number status.NoMemory)
+
+-- what a call says of a task: each line that asks for it is served
+abbrev pub ServesTask : Task → Fetches → Puts → ℕ → Type 0
+ServesTask task shelf out number = (words : List Word) → Asks words task → Serves words shelf out number
+
+-- what a call says of no task: each line that asks for none is served
+abbrev pub ServesNoTask : Fetches → Puts → ℕ → Type 0
+ServesNoTask shelf out number = (words : List Word) → (AreServed words → ⊥) → Serves words shelf out number
 
 -- what a call says of its words and the number of its status over a shelf and a sink that tell nothing of their content,
 -- as real files and standard output do: there are counts, before the call and after it, and a newest fetch with which it

@@ -28,5 +28,4 @@ pub mod Refusals
 pub mod Lines
 pub mod Puts
 pub mod Ends
-pub mod Alone
 pub mod Laws

@@ -3,9 +3,10 @@
 -- What is said of each hotel is what `desk` says of it (`IsRightRun`), for its own house, script and workers alone.
 use Rattle.std.specs.Prelude.{ℕ, ◌+◌, true, false, if◌then◌else◌, List, [], ◌∷◌, ◌++◌, codes}
 use Rattle.std.specs.List.{list_all}
+use Rattle.bp_desk_run.specs.RightRun.{Staged}
 use Rattle.bp_desk_run.specs.declared.callers.Ran.{Ran}
 use Rattle.bp_portfolio.specs.Lists.{FiveNames}
-use Rattle.bp_portfolio.specs.Desks.{Staged, AreRightRuns, HaveRoom}
+use Rattle.bp_portfolio.specs.Desks.{AreRightRuns, HaveRoom}
 use Rattle.bp_cli.specs.Words.{Word}
 use Rattle.bp_run.specs.Stages.{Plan, done, ask, followed_by}
 use Rattle.bp_run.specs.HotelPlan.{HotelNames}

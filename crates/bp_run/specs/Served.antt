@@ -1,9 +1,9 @@
--- Which words are served, which tasks run in one thread, and which commands may start threads.
+-- Which words are served, which tasks one thread can do, and which commands may start threads.
 use Rattle.std.specs.Prelude.{◌≡◌, ◌⊎◌, ℕ, List, [], ◌∷◌, codes}
 use Rattle.bp_cli.specs.Words.{Word}
 use Rattle.bp_cli.specs.Tasks.{Task, FiveNames, check, solve, group, judge, desk, replay, report, demo, scenarios, sheet, portfolio, Asks}
 
--- the task's command runs in one thread
+-- one thread can do what the task asks for
 abbrev pub IsPlainTask : Task → Type 0
 IsPlainTask (check problem certificate) = Unit {0}
 IsPlainTask (solve problem) = Unit {0}
@@ -13,7 +13,7 @@ IsPlainTask (desk names workers) = ⊥
 IsPlainTask (replay names) = Unit {0}
 IsPlainTask (report names) = Unit {0}
 IsPlainTask (demo seed nights rooms stays) = Unit {0}
-IsPlainTask (scenarios problem changes) = ⊥
+IsPlainTask (scenarios problem changes) = Unit {0}
 IsPlainTask (sheet problem) = Unit {0}
 IsPlainTask (portfolio list workers) = ⊥
 

@@ -1,5 +1,5 @@
 //! The commands, one file each: its answer, and the status and the text of the answer.
-ghost use Rattle.std.specs.Prelude.{◌≡◌, ◌↔◌, IsTrue, IfOk};
+ghost use Rattle.std.specs.Prelude.{◌≡◌, IfOk};
 ghost use Rattle.bp_cli.specs.Asked.{asked};
 ghost use Rattle.bp_run.specs.Served.{IsPlainTask};
 ghost use Rattle.bp_run.specs.Demo.{HasDemoNumbers};
@@ -32,23 +32,6 @@ pub mod scenarios;
 pub mod sheet;
 pub mod solve;
 
-/// Whether the task's command runs in one thread.
-pub fn is_plain(task: &Task<'_>) -> bool
-    ensures { IsTrue result ↔ IsPlainTask (asked task.now) }
-{
-    matches!(
-        task,
-        Task::Check { .. }
-            | Task::Solve { .. }
-            | Task::Group { .. }
-            | Task::Judge { .. }
-            | Task::Replay { .. }
-            | Task::Report { .. }
-            | Task::Sheet { .. }
-            | Task::Demo { .. }
-    )
-}
-
 /// The names of a hotel's four files.
 pub fn hotel_files<'a>(
     hotel: &Name<'a>,
@@ -56,7 +39,8 @@ pub fn hotel_files<'a>(
     forecast: &Name<'a>,
     bookings: &Name<'a>,
 ) -> HotelFiles<'a>
-    ensures { named result ≡ record { hotel = hotel.now; stays = stays.now; forecast = forecast.now; bookings = bookings.now } }
+    ensures { named result ≡
+        record { hotel = hotel.now; stays = stays.now; forecast = forecast.now; bookings = bookings.now } }
 {
     HotelFiles {
         hotel: hotel.text(),
@@ -105,7 +89,8 @@ pub fn answer<S: Shelf>(alloc: Global, shelf: &mut S, task: &Task<'_>) -> Result
     requires plain { IsPlainTask (asked task.now) }
     requires numbers { HasDemoNumbers (asked task.now) }
     ensures plain { IfOk result IsPlainAnswer }
-    ensures concludes { Concludes (over S.held S.faults S.fetches S.last S.steady shelf.old shelf.new) (command_of (asked task.now)) result }
+    ensures concludes { Concludes (over S.held S.faults S.fetches S.last S.steady shelf.old shelf.new)
+        (command_of (asked task.now)) result }
 {
     match task {
         Task::Check {
@@ -161,7 +146,13 @@ pub fn answer<S: Shelf>(alloc: Global, shelf: &mut S, task: &Task<'_>) -> Result
         } => {
             Ok(Answer::Demonstrated(demo::answer(alloc, shelf, *seed, *nights, *rooms, *stays)?))
         }
-        Task::Desk { .. } | Task::Scenarios { .. } | Task::Portfolio { .. } => unreachable!(),
+        Task::Scenarios { problem, changes } => Ok(Answer::Foreseen(scenarios::answer_alone(
+            alloc,
+            shelf,
+            problem.text(),
+            changes.text(),
+        )?)),
+        Task::Desk { .. } | Task::Portfolio { .. } => unreachable!(),
     }
 }
 

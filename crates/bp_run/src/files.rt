@@ -63,8 +63,10 @@ fn fetch_file<S: Shelf>(
     most: u64,
 ) -> Result<Vec<u8>, Stop>
     ensures read { IfOk result (λ bytes. IsRead (S.held shelf.old) name.now most bytes.items) }
-    ensures stopped { IfErr result (GivesNone (over S.held S.faults S.fetches S.last S.steady shelf.old shelf.new) name.now most file) }
-    ensures unfailing { S.steady shelf.old → ForSome (S.held shelf.old) (λ files. IsSome (get files name.now) → IfErr result (λ stop. IsFault stop → ⊥)) }
+    ensures stopped { IfErr result
+        (GivesNone (over S.held S.faults S.fetches S.last S.steady shelf.old shelf.new) name.now most file) }
+    ensures unfailing { S.steady shelf.old →
+        ForSome (S.held shelf.old) (λ files. IsSome (get files name.now) → IfErr result (λ stop. IsFault stop → ⊥)) }
     ensures leaves { Leaves (over S.held S.faults S.fetches S.last S.steady shelf.old shelf.new) }
 {
     match shelf.fetch(alloc, name, most) {
@@ -88,7 +90,15 @@ pub fn load<K: Kind, S: Shelf>(
 ) -> Result<K::Value, Stop>
     requires { K.needs kind.now }
     ensures kept { IfOk result (λ v. K.keeps kind.now v) }
-    ensures follows { let stage : Stage = record { name = name.now; most = K.most kind.now; Value = K.Value; Accepts = K.accepts kind.now; Refuses = K.refuses kind.now }
+    ensures follows { let stage : Stage =
+        record {
+          name = name.now;
+          most = K.most kind.now;
+          Value = K.Value;
+          Accepts = K.accepts kind.now;
+          Refuses =
+              K.refuses kind.now;
+        }
         in Follows (over S.held S.faults S.fetches S.last S.steady shelf.old shelf.new) (one stage) file (file + 1) result }
 {
     let bytes = fetch_file(alloc, shelf, file, name, kind.most_bytes())?;

@@ -58,7 +58,8 @@ pub fn load_house<S: Shelf>(
     names: &HotelFiles<'_>,
 ) -> Result<OpenHotel, Stop>
     requires { first + 4 < 2 ^ 64 }
-    ensures { Follows (over S.held S.faults S.fetches S.last S.steady shelf.old shelf.new) (hotel_plan (named names.now)) first (first + 4) result }
+    ensures { Follows (over S.held S.faults S.fetches S.last S.steady shelf.old shelf.new)
+        (hotel_plan (named names.now)) first (first + 4) result }
 {
     let hotel = load(alloc, shelf, &HotelFile, first, names.hotel)?;
     let file = StaysFile { hotel: &hotel };

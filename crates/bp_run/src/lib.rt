@@ -1,7 +1,12 @@
 //! The whole program: from words and files to a status and a text.
+//!
+//! A line of words served with files and a sink in memory.
+//!
+//! ```
+//! let got = run(rt, alloc, &words, &mut shelf, &mut sink, &NoGate);
+//! ```
 #![tactic(auto)]
 
-mod alone;
 mod commands;
 mod end;
 mod files;
@@ -17,7 +22,6 @@ mod threads;
 mod top;
 mod unread;
 
-pub use alone::run_scenarios;
 pub use commands::group::GroupAnswer;
 pub use commands::judge::Ruling;
 pub use commands::portfolio::Runs;
@@ -25,4 +29,4 @@ pub use commands::report::ReportAnswer;
 pub use commands::scenarios::Outcomes;
 pub use end::{Answer, Cause, End, FileError};
 pub use status::Status;
-pub use top::{run, run_plain};
+pub use top::{run, run_no_task, run_plain, run_task};

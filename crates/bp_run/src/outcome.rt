@@ -1,12 +1,22 @@
 //! How the words end over a shelf.
-ghost use Rattle.std.specs.Prelude.{◌≡◌, ◌≢◌, IfOk, MatchOption};
-ghost use Rattle.bp_cli.specs.Words.{texts};
+ghost use Rattle.std.specs.Prelude.{◌≡◌, ◌≢◌, List, IfOk, MatchOption};
+ghost use Rattle.bp_cli.specs.Words.{Word, texts};
 ghost use Rattle.bp_cli.specs.Asked.{asked};
 ghost use Rattle.bp_cli.specs.Tasks.{Asks};
 ghost use Rattle.bp_run.specs.Fetches.{over};
-ghost use Rattle.bp_run.specs.Served.{MayStartThreads, IsDesk, AreScenarios, IsPortfolio};
+ghost use Rattle.bp_run.specs.Served.{IsPlainTask, MayStartThreads, IsDesk, AreScenarios, IsPortfolio};
+ghost use Rattle.bp_run.specs.Demo.{HasDemoNumbers};
 ghost use Rattle.bp_run.specs.Lines.{end_status};
-ghost use Rattle.bp_run.specs.Ends.{HasEnd, HoldsAll, HasStopped, IsPlainEnd, IsDeskOf, AreScenariosOf, IsPortfolioOf};
+ghost use Rattle.bp_run.specs.Ends.{
+  HasEnd,
+  HasTaskEnd,
+  HoldsAll,
+  HasStopped,
+  IsPlainEnd,
+  IsDeskOf,
+  AreScenariosOf,
+  IsPortfolioOf,
+};
 ghost use Rattle.bp_run.specs.declared.status.Status.TheVariants.{Fault};
 
 use crate::commands::{desk, portfolio, scenarios};
@@ -42,8 +52,8 @@ pub struct PortfolioLine<'a> {
     pub workers: u32,
 }
 
-/// How a call ends that was stopped at a file.
-pub(crate) fn stopped(stop: Stop) -> Result<End, Memory>
+// How a call ends that was stopped at a file.
+fn stopped(stop: Stop) -> Result<End, Memory>
     ensures { HasStopped stop result }
 {
     match stop {
@@ -53,24 +63,17 @@ pub(crate) fn stopped(stop: Stop) -> Result<End, Memory>
     }
 }
 
-/// How the words of a line for one thread end over the shelf, before anything is written.
-#[tactic(auto, using(crate::proofs::EndLemmas::demo_numbers, crate::proofs::EndLemmas::not_plain_task, crate::proofs::EndLemmas::stopped_has, crate::proofs::EndLemmas::stopped_unfailing, crate::proofs::EndLemmas::stopped_plain, crate::proofs::EndLemmas::answer_is_no_fault))]
-pub fn end_of<S: Shelf>(alloc: Global, words: &[String], shelf: &mut S) -> Result<End, Memory>
-    requires { MayStartThreads (texts words.now) → ⊥ }
-    ensures end { IfOk result (HasEnd (texts words.now) (over S.held S.faults S.fetches S.last S.steady shelf.old shelf.new)) }
-    ensures unfailing { S.steady shelf.old → HoldsAll (texts words.now) (S.held shelf.old) → IfOk result (λ end. end_status end ≢ Fault) }
+/// How a task that one thread can do ends over the shelf, before anything is written.
+pub fn end_of<S: Shelf>(alloc: Global, task: &Task<'_>, shelf: &mut S) -> Result<End, Memory>
+    requires plain { IsPlainTask (asked task.now) }
+    requires numbers { HasDemoNumbers (asked task.now) }
+    ensures end { IfOk result
+        (HasTaskEnd (asked task.now) (over S.held S.faults S.fetches S.last S.steady shelf.old shelf.new)) }
+    ensures unfailing { S.steady shelf.old → (words : List Word) → Asks words (asked task.now)
+        → HoldsAll words (S.held shelf.old) → IfOk result (λ end. end_status end ≢ Fault) }
     ensures plain { IfOk result IsPlainEnd }
 {
-    law::tasks_are_unique();
-    let task = match parse(alloc, words) {
-        Ok(task) => task,
-        Err(WordsError::Usage) => return Ok(End::NotPlain),
-        Err(WordsError::Memory) => return Err(Memory),
-    };
-    if !commands::is_plain(&task) {
-        return Ok(End::NotPlain);
-    }
-    match commands::answer(alloc, shelf, &task) {
+    match commands::answer(alloc, shelf, task) {
         Ok(answer) => Ok(End::Answered(answer)),
         Err(stop) => stopped(stop),
     }
@@ -137,8 +140,10 @@ fn end_of_portfolio<R: Wait + Threads + Sync, S: Shelf, G: Gate>(
     requires asks { Asks (texts words.now) (asked task.now) }
     requires no_desk { IsDesk (asked task.now) → ⊥ }
     requires no_scenarios { AreScenarios (asked task.now) → ⊥ }
-    ensures end { IfOk result (HasEnd (texts words.now) (over S.held S.faults S.fetches S.last S.steady shelf.old shelf.new)) }
-    ensures unfailing { S.steady shelf.old → HoldsAll (texts words.now) (S.held shelf.old) → IfOk result (λ end. end_status end ≢ Fault) }
+    ensures end { IfOk result
+        (HasEnd (texts words.now) (over S.held S.faults S.fetches S.last S.steady shelf.old shelf.new)) }
+    ensures unfailing { S.steady shelf.old → HoldsAll (texts words.now) (S.held shelf.old) →
+        IfOk result (λ end. end_status end ≢ Fault) }
 {
     law::tasks_are_unique();
     let Some(line) = portfolio_of(task) else {
@@ -163,8 +168,10 @@ fn end_beside_desk<R: Wait + Threads + Sync, S: Shelf, G: Gate>(
     requires may { MayStartThreads (texts words.now) }
     requires asks { Asks (texts words.now) (asked task.now) }
     requires no_desk { IsDesk (asked task.now) → ⊥ }
-    ensures end { IfOk result (HasEnd (texts words.now) (over S.held S.faults S.fetches S.last S.steady shelf.old shelf.new)) }
-    ensures unfailing { S.steady shelf.old → HoldsAll (texts words.now) (S.held shelf.old) → IfOk result (λ end. end_status end ≢ Fault) }
+    ensures end { IfOk result
+        (HasEnd (texts words.now) (over S.held S.faults S.fetches S.last S.steady shelf.old shelf.new)) }
+    ensures unfailing { S.steady shelf.old → HoldsAll (texts words.now) (S.held shelf.old) →
+        IfOk result (λ end. end_status end ≢ Fault) }
 {
     let Some(line) = scenarios_of(task) else {
         return end_of_portfolio(rt, alloc, words, shelf, task, gate);
@@ -185,8 +192,10 @@ pub fn end_with_threads<R: Wait + Threads + Sync, S: Shelf, G: Gate>(
     gate: &G,
 ) -> Result<End, Memory>
     requires { MayStartThreads (texts words.now) }
-    ensures end { IfOk result (HasEnd (texts words.now) (over S.held S.faults S.fetches S.last S.steady shelf.old shelf.new)) }
-    ensures unfailing { S.steady shelf.old → HoldsAll (texts words.now) (S.held shelf.old) → IfOk result (λ end. end_status end ≢ Fault) }
+    ensures end { IfOk result
+        (HasEnd (texts words.now) (over S.held S.faults S.fetches S.last S.steady shelf.old shelf.new)) }
+    ensures unfailing { S.steady shelf.old → HoldsAll (texts words.now) (S.held shelf.old) →
+        IfOk result (λ end. end_status end ≢ Fault) }
 {
     law::tasks_are_unique();
     let task = match parse(alloc, words) {

@@ -34,7 +34,8 @@ pub(crate) fn alone() -> &'static [Run] {
     ]
 }
 
-/// A desk with two workers: the status, and its journal up to the Leave of its session, and behind those of the workers.
+/// A desk with two workers: the status, and its journal up to the Leave of its session, and behind those of the
+/// workers.
 pub(crate) type RunBeside = (&'static str, u8, &'static str, &'static str);
 
 /// Desks where no worker may publish. The script is `three-calls`.

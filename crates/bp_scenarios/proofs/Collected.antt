@@ -4,7 +4,8 @@ use Rattle.std.proofs.lemmas.List.{take_more}
 use Rattle.std.specs.List.{AllZip}
 use Rattle.rayon.proofs.ToStd.{slice-AllZip}
 
-oks : {X Y : Type 0} (E : Type 0) (R : X → Y → Type 0) (zs : List (Bor X)) (ys : List Y) → AllZip (λ (z : Bor X) (r : Result Y E). IfOk r (R z.now)) zs (map Ok ys) → AllZip (λ (z : Bor X) y. R z.now y) zs ys
+oks : {X Y : Type 0} (E : Type 0) (R : X → Y → Type 0) (zs : List (Bor X)) (ys : List Y) →
+    AllZip (λ (z : Bor X) (r : Result Y E). IfOk r (R z.now)) zs (map Ok ys) → AllZip (λ (z : Bor X) y. R z.now y) zs ys
 oks E R [] [] h = tt
 oks E R [] (y ∷ ys) h = absurd h
 oks E R (z ∷ zs) [] h = absurd h

@@ -3,7 +3,6 @@ pub mod RoomLemmas
 -- lists that threads answer
 pub mod Collected
 -- changes told from their lines, and lines told from one another
-pub mod Splitting
 pub mod ChangeLemmas
 pub mod RowLemmas
 -- from a refused line to the whole text

@@ -19,7 +19,8 @@ all_behind P [] ys all = all
 all_behind P (x ∷ xs) ys all = all_behind P xs ys (λ j e g. all (suc j) e (omega arith))
 
 -- each scenario of those within the limits
-pub askable : (p : Program) (lists : List (List Change)) → length (all_changes lists) ≤ MOST_CHANGES → All (IsChangeWithin p) (all_changes lists) → All (IsAskable p) lists
+pub askable : (p : Program) (lists : List (List Change)) → length (all_changes lists) ≤ MOST_CHANGES → All (IsChangeWithin p) (all_changes lists) →
+    All (IsAskable p) lists
 askable p [] few all k d h = absurd (omega arith)
 askable p (cs ∷ lists) few all zero d h =
     record { not_too_many = omega (arith, length-append cs (all_changes lists), few); each = all_front (IsChangeWithin p) cs (all_changes lists) all }
@@ -34,7 +35,8 @@ of_size p nights stays bytes r n s text =
     let Q : ℕ → Type 0 = λ k. IsText scenario_lines (AreWithin (IsChangeOf (length p.rooms) k)) bytes r in
     subst Q s (subst P n text)
 
-pub askable_text : (p : Program) (bytes : List ℕ) (r : Result (List (List Change)) TextError) → IsText scenario_lines (AreWithin (IsChangeWithin p)) bytes r → IfOk r (λ lists. All (IsAskable p) lists)
+pub askable_text : (p : Program) (bytes : List ℕ) (r : Result (List (List Change)) TextError) → IsText scenario_lines (AreWithin (IsChangeWithin p)) bytes r →
+    IfOk r (λ lists. All (IsAskable p) lists)
 askable_text p bytes (Ok lists) text = askable p lists text.0.changes text.0.each
 askable_text p bytes (Err e) text = tt
 

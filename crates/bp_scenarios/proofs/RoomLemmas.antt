@@ -1,5 +1,39 @@
 -- Changes that the rooms allow fit, one after another.
-use Rattle.std.proofs.Common.{◌≡◌, ℕ, zero, suc, ◌+◌, ◌-◌, ◌≤◌, ◌<◌, ◌||◌, Bool, true, false, List, [], ◌∷◌, Option, Some, None, is_some, arith, refl, ap, drop, length, slice_index, slice_index_or, sym, subst, ◌∙◌, inl, inr, cond, All}
+use Rattle.std.proofs.Common.{
+  ◌≡◌,
+  ℕ,
+  zero,
+  suc,
+  ◌+◌,
+  ◌-◌,
+  ◌≤◌,
+  ◌<◌,
+  ◌||◌,
+  Bool,
+  true,
+  false,
+  List,
+  [],
+  ◌∷◌,
+  Option,
+  Some,
+  None,
+  is_some,
+  arith,
+  refl,
+  ap,
+  drop,
+  length,
+  slice_index,
+  slice_index_or,
+  sym,
+  subst,
+  ◌∙◌,
+  inl,
+  inr,
+  cond,
+  All,
+}
 use Rattle.std.specs.Prelude.{nat_lt}
 use Rattle.std.proofs.lemmas.Bool.{ltb-false, cases_Bool, cond-true, cond-false}
 use Rattle.std.proofs.lemmas.List.{length-set}
@@ -69,13 +103,15 @@ all_tail : (P : Change → Type 0) (c : Change) (cs : List Change) → All P (c 
 all_tail P c cs all k d h = all (suc k) d (omega arith)
 
 -- changes of which none is refused fit
-pub fit_in_turn : (k : ℕ) (start p : Program) (cs : List Change) → All (IsChangeWithin start) cs → length p.rooms ≡ length start.rooms → length p.stays ≡ length start.stays → first_refused k p cs ≡ None → FitInTurn p cs
+pub fit_in_turn : (k : ℕ) (start p : Program) (cs : List Change) → All (IsChangeWithin start) cs → length p.rooms ≡ length start.rooms →
+    length p.stays ≡ length start.stays → first_refused k p cs ≡ None → FitInTurn p cs
 fit_in_turn k start p [] all nights stays none = tt
 fit_in_turn k start p (c ∷ cs) all nights stays none = elim (cases_Bool (breaks p c)) [
   | inl broken ↦ absurd (let e : Some k ≡ None = sym (cond-true _ _ _ broken) ∙ none in cc)
   | inr whole ↦ (
     fits p c (still_within start p c nights stays (all 0 c (omega arith))) whole,
-    fit_in_turn (k + 1) start (changed p c) cs (all_tail (IsChangeWithin start) c cs all) (same_nights p c ∙ nights) (same_stays p c ∙ stays) (sym (cond-false _ _ _ whole) ∙ none),
+    fit_in_turn (k + 1) start (changed p c) cs (all_tail (IsChangeWithin start) c cs all) (same_nights p c ∙ nights) (same_stays p c ∙
+        stays) (sym (cond-false _ _ _ whole) ∙ none),
   )
 ]
 
@@ -99,15 +135,18 @@ next_left (x ∷ xs) zero d lt = refl
 next_left (x ∷ xs) (suc i) d lt = next_left xs i d (omega arith)
 
 -- it is refused
-pub refused_here : (start here : Program) (all : List Change) (number i : ℕ) (d : Change) → i < length all → breaks here (slice_index_or all i d) ≡ true → IsOnWay start all number here (drop i all) → Some number ≡ first_refused 1 start all
+pub refused_here : (start here : Program) (all : List Change) (number i : ℕ) (d : Change) → i < length all → breaks here (slice_index_or all i d) ≡ true →
+    IsOnWay start all number here (drop i all) → Some number ≡ first_refused 1 start all
 refused_here start here all number i d lt broken way =
     sym (cond-true (breaks here (slice_index_or all i d)) (Some number) _ broken) ∙ sym (ap (first_refused number here) (next_left all i d lt)) ∙ way.same
 
 -- or the way goes on behind it
-pub one_further : (start here : Program) (all : List Change) (number i : ℕ) (d : Change) → i < length all → breaks here (slice_index_or all i d) ≡ false → IsOnWay start all number here (drop i all)
+pub one_further : (start here : Program) (all : List Change) (number i : ℕ) (d : Change) → i < length all → breaks here (slice_index_or all i d) ≡ false →
+    IsOnWay start all number here (drop i all)
     → IsOnWay start all (number + 1) (changed here (slice_index_or all i d)) (drop (i + 1) all)
 one_further start here all number i d lt whole way =
     let c = slice_index_or all i d in
     let next : first_refused number here (drop i all) ≡ first_refused (number + 1) (changed here c) (drop (i + 1) all) =
-    ap (first_refused number here) (next_left all i d lt) ∙ cond-false (breaks here c) (Some number) _ whole ∙ ap (λ j. first_refused (number + 1) (changed here c) (drop j all)) (let e : suc i ≡ i + 1 = omega arith in e) in
+    ap (first_refused number here) (next_left all i d lt) ∙ cond-false (breaks here c) (Some number) _ whole ∙
+    ap (λ j. first_refused (number + 1) (changed here c) (drop j all)) (let e : suc i ≡ i + 1 = omega arith in e) in
     record { nights = same_nights here c ∙ way.nights; stays = same_stays here c ∙ way.stays; same = sym next ∙ way.same }

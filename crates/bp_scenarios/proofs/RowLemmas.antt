@@ -1,5 +1,32 @@
 -- Scenarios as rows: what the rows tell, and how their lines go on.
-use Rattle.std.proofs.Common.{◌≡◌, ◌⊎◌, ℕ, zero, suc, ◌+◌, ◌<◌, ◌≤◌, refl, ap, sym, subst, ◌∙◌, arith, List, [], ◌∷◌, ◌++◌, length, map, All, get_or, append_assoc, length-append, inl, inr}
+use Rattle.std.proofs.Common.{
+  ◌≡◌,
+  ◌⊎◌,
+  ℕ,
+  zero,
+  suc,
+  ◌+◌,
+  ◌<◌,
+  ◌≤◌,
+  refl,
+  ap,
+  sym,
+  subst,
+  ◌∙◌,
+  arith,
+  List,
+  [],
+  ◌∷◌,
+  ◌++◌,
+  length,
+  map,
+  All,
+  get_or,
+  append_assoc,
+  length-append,
+  inl,
+  inr,
+}
 use Rattle.std.specs.Prelude.{codes}
 use Rattle.std.proofs.lemmas.List.{append-nil}
 use Rattle.std.proofs.lemmas.List.Elements.{All-append, All-cons, All-nil}
@@ -39,7 +66,8 @@ pub record NoRow (all front : List Row) (line : Line) (more : List Line) : Type 
   pub none : more ≡ []
 
 -- of rows whose lines begin with those of others, the rest
-pub goes_on : (all front : List Row) (line : Line) (more : List Line) → map row_line all ++ codes "end" ∷ [] ≡ map row_line front ++ line ∷ more → NoRow all front line more ⊎ NextRow all front line
+pub goes_on : (all front : List Row) (line : Line) (more : List Line) → map row_line all ++ codes "end" ∷ [] ≡ map row_line front ++ line ∷ more →
+    NoRow all front line more ⊎ NextRow all front line
 goes_on [] [] line more e =
     let parts = parted (codes "end") line [] more e in
     inl (record { same = refl; last = sym parts.0; none = sym parts.1 })
@@ -89,19 +117,23 @@ makes_of_rows [] = refl
 makes_of_rows (cs ∷ lists) = makes_of_changes cs (rows lists) ∙ ap (λ xs. cs ++ xs) (makes_of_rows lists)
 
 -- of scenarios whose rows are those of others and one more
-pub scenarios_more : (lists longer : List (List Change)) (row : Row) (after : List Row) → rows longer ≡ rows lists ++ row ∷ after → length longer ≡ length lists + opens (row ∷ after)
+pub scenarios_more : (lists longer : List (List Change)) (row : Row) (after : List Row) → rows longer ≡ rows lists ++ row ∷ after →
+    length longer ≡ length lists + opens (row ∷ after)
 scenarios_more lists longer row after e =
     omega (arith, sym (opens_of_rows longer) ∙ ap opens e ∙ opens-append (rows lists) (row ∷ after), opens_of_rows lists)
 
-pub changes_more : (lists longer : List (List Change)) (row : Row) (after : List Row) → rows longer ≡ rows lists ++ row ∷ after → all_changes longer ≡ all_changes lists ++ makes (row ∷ after)
+pub changes_more : (lists longer : List (List Change)) (row : Row) (after : List Row) → rows longer ≡ rows lists ++ row ∷ after →
+    all_changes longer ≡ all_changes lists ++ makes (row ∷ after)
 changes_more lists longer row after e =
     sym (makes_of_rows longer) ∙ ap makes e ∙ makes-append (rows lists) (row ∷ after) ∙ ap (λ cs. cs ++ makes (row ∷ after)) (makes_of_rows lists)
 
-pub count_more : (lists longer : List (List Change)) (row : Row) → rows longer ≡ rows lists ++ row ∷ [] → length (all_changes longer) ≡ length (all_changes lists) + length (makes (row ∷ []))
+pub count_more : (lists longer : List (List Change)) (row : Row) → rows longer ≡ rows lists ++ row ∷ [] →
+    length (all_changes longer) ≡ length (all_changes lists) + length (makes (row ∷ []))
 count_more lists longer row e = ap length (changes_more lists longer row [] e) ∙ length-append (all_changes lists) (makes (row ∷ []))
 
 -- rows that may stand there keep the limits
-pub within_more : (Within : Change → Type 0) (lists longer : List (List Change)) (row : Row) → rows longer ≡ rows lists ++ row ∷ [] → AreWithin Within lists → IsRow Within (length lists) (length (all_changes lists)) row → AreWithin Within longer
+pub within_more : (Within : Change → Type 0) (lists longer : List (List Change)) (row : Row) → rows longer ≡ rows lists ++ row ∷ [] → AreWithin Within lists →
+    IsRow Within (length lists) (length (all_changes lists)) row → AreWithin Within longer
 within_more Within lists longer Opens e within allowed =
     let same : all_changes longer ≡ all_changes lists = changes_more lists longer Opens [] e ∙ append-nil (all_changes lists) in
     let P : List Change → Type 0 = λ cs. All Within cs in
@@ -127,7 +159,8 @@ opens_first (cs ∷ lists) c after e = cc
 -- rows of scenarios, one behind another
 pub rows-append : (xs ys : List (List Change)) → rows (xs ++ ys) ≡ rows xs ++ rows ys
 rows-append [] ys = refl
-rows-append (cs ∷ xs) ys = ap (λ rs. Opens ∷ (map Makes cs ++ rs)) (rows-append xs ys) ∙ ap (λ rs. Opens ∷ rs) (sym (append_assoc (map Makes cs) (rows xs) (rows ys)))
+rows-append (cs ∷ xs) ys = ap (λ rs. Opens ∷ (map Makes cs ++ rs)) (rows-append xs ys) ∙
+    ap (λ rs. Opens ∷ rs) (sym (append_assoc (map Makes cs) (rows xs) (rows ys)))
 
 -- a scenario more
 pub rows_opened : (lists : List (List Change)) → rows (lists ++ [] ∷ []) ≡ rows lists ++ Opens ∷ []
@@ -141,7 +174,8 @@ map_more (d ∷ cs) c = ap (λ rs. Makes d ∷ rs) (map_more cs c)
 pub rows_made : (lists : List (List Change)) (cs : List Change) (c : Change) → rows (lists ++ (cs ++ c ∷ []) ∷ []) ≡ rows (lists ++ cs ∷ []) ++ Makes c ∷ []
 rows_made lists cs c =
     rows-append lists ((cs ++ c ∷ []) ∷ [])
-    ∙ ap (λ rs. rows lists ++ Opens ∷ rs) (append-nil (map Makes (cs ++ c ∷ [])) ∙ map_more cs c ∙ ap (λ rs. rs ++ Makes c ∷ []) (sym (append-nil (map Makes cs))))
+    ∙ ap (λ rs. rows lists ++ Opens ∷ rs) (append-nil (map Makes (cs ++ c ∷ [])) ∙ map_more cs c ∙
+    ap (λ rs. rs ++ Makes c ∷ []) (sym (append-nil (map Makes cs))))
     ∙ sym (append_assoc (rows lists) (rows (cs ∷ [])) (Makes c ∷ []))
     ∙ ap (λ rs. rs ++ Makes c ∷ []) (sym (rows-append lists (cs ∷ [])))
 

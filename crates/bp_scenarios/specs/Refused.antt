@@ -1,5 +1,26 @@
 -- Which changes may be asked about, and the first one of a list that the rooms of some night do not allow.
-use Rattle.std.specs.Prelude.{ℕ, ◌+◌, ◌<◌, ◌≤◌, Bool, true, false, ◌||◌, nat_lt, if◌then◌else◌, List, [], ◌∷◌, length, slice_index, All, Option, None, Some, is_some}
+use Rattle.std.specs.Prelude.{
+  ℕ,
+  ◌+◌,
+  ◌<◌,
+  ◌≤◌,
+  Bool,
+  true,
+  false,
+  ◌||◌,
+  nat_lt,
+  if◌then◌else◌,
+  List,
+  [],
+  ◌∷◌,
+  length,
+  slice_index,
+  All,
+  Option,
+  None,
+  Some,
+  is_some,
+}
 use Rattle.std.specs.List.{find, range_with_len}
 use Rattle.bp_types.specs.declared.change.Change.{Change}
 use Rattle.bp_types.specs.declared.change.Change.TheVariants.{Rooms, Demand, Rate}

@@ -39,8 +39,9 @@ fn in_turn(
     ensures { IfOk result (λ v. AllZip (IsOutcome base.now) lists.now v.items) }
 {
     let mut outcomes = Vec::with_capacity(alloc, lists.len())?;
+    let mut own: Option<Solver> = None;
     for changes in lists {
-        outcomes.push(outcome_of(alloc, base, solver, changes)?)?;
+        outcomes.push(outcome_of(alloc, base, solver, &mut own, changes)?)?;
     }
     Ok(outcomes)
 }

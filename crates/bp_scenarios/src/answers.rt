@@ -19,7 +19,8 @@ use std::thread::Threads;
 
 /// The outcome of each list of changes, in their order. Each is of the base after its own list alone.
 ///
-/// The base is solved once. Each list takes a copy of that solver and a restart, which costs what its changes move.
+/// The base is solved once. Each piece of the lists has one copy of that solver, which is set to the base for each list
+/// and restarted from there; a restart costs what the list's changes move.
 pub fn scenarios(
     rt: &(impl Threads + Sync),
     alloc: Global,
@@ -63,21 +64,24 @@ fn outcomes(
     let all: Result<Vec<Outcome>, Memory> = lists
         .par_iter()
         .with_min_len(1)
-        .map(
-            |changes: &Changes| -> Result<Outcome, Memory>
+        .map_init(
+            || -> Option<Solver> { None },
+            |own: &mut Option<Solver>, changes: &Changes| -> Result<Outcome, Memory>
                 requires { (solver.now.flow.program ≡ base.now) × IsAskable base.now changes.now }
                 ensures { IfOk result (IsOutcome base.entry.now changes.now) }
-            { outcome_of(alloc, base, solver, changes) },
+            { outcome_of(alloc, base, solver, own, changes) },
         )
         .collect(rt, alloc)?;
     all
 }
 
-/// The outcome of one list of changes.
+/// The outcome of one list of changes. `own` is a copy of some solver that this call may use as it likes, and leaves
+/// for the next one; none before the first.
 pub(crate) fn outcome_of(
     alloc: Global,
     base: &Instance,
     solver: &Solver,
+    own: &mut Option<Solver>,
     changes: &Changes,
 ) -> Result<Outcome, Memory>
     requires same { solver.now.flow.program ≡ base.now }
@@ -87,23 +91,45 @@ pub(crate) fn outcome_of(
     let mut instance = base.copy(alloc)?;
     match first_refused(&mut instance, changes.list()) {
         Some(change) => Ok(Outcome::Refused { change }),
-        None => restarted(alloc, solver, changes),
+        None => restarted(alloc, solver, own, changes),
+    }
+}
+
+/// A solver that is the same as the base's: the one that is kept, set to it, or else a copy.
+fn same_solver(alloc: Global, base: &Solver, kept: Option<Solver>) -> Result<Solver, Memory>
+    ensures { IfOk result (λ s. s.flow ≡ base.now.flow) }
+{
+    match kept {
+        Some(mut solver) => {
+            if solver.set_to(base) {
+                Ok(solver)
+            } else {
+                base.copy(alloc)
+            }
+        }
+        None => base.copy(alloc),
     }
 }
 
 /// The outcome of changes that the rooms allow.
-fn restarted(alloc: Global, solver: &Solver, changes: &Changes) -> Result<Outcome, Memory>
+fn restarted(
+    alloc: Global,
+    solver: &Solver,
+    own: &mut Option<Solver>,
+    changes: &Changes,
+) -> Result<Outcome, Memory>
     requires allowed { first_refused 1 solver.now.flow.program changes.now ≡ None }
     requires fit { FitInTurn solver.now.flow.program changes.now }
     ensures { IfOk result (IsOutcome solver.now.flow.program changes.now) }
 {
-    restarted_by::<Brand>(alloc, solver, changes, Blank::new(1))
+    restarted_by::<Brand>(alloc, solver, own, changes, Blank::new(1))
 }
 
 /// The same, with the searches counted in a ledger.
 fn restarted_by<L: Ledger>(
     alloc: Global,
     base: &Solver,
+    own: &mut Option<Solver>,
     changes: &Changes,
     blank: Blank,
 ) -> Result<Outcome, Memory>
@@ -114,13 +140,11 @@ fn restarted_by<L: Ledger>(
     requires fit { FitInTurn base.now.flow.program changes.now }
     ensures { IfOk result (IsOutcome base.now.flow.program changes.now) }
 {
-    bp_types::law::certificate_is_optimal();
     let mut steps: Steps<L> = Steps::new(blank);
-    let mut solver = base.copy(alloc)?;
+    let mut solver = same_solver(alloc, base, own.take())?;
     catch_up(&mut solver, changes.list(), &mut steps);
-    let certificate = solver.certificate(alloc)?;
-    Ok(Outcome::Solved {
-        value: certificate.value,
-        prices: Prices::new(certificate.prices),
-    })
+    let value = solver.value();
+    let prices = Prices::new(solver.prices(alloc)?);
+    *own = Some(solver);
+    Ok(Outcome::Solved { value, prices })
 }

@@ -14,7 +14,8 @@ pub fn outcome_is_unique()
     least_prices_are_unique();
 }
 
-/// No two lists of scenarios have one text, and none goes on behind another; bytes are read as scenarios of a problem in
+/// No two lists of scenarios have one text, and none goes on behind another; bytes are read as scenarios of a problem
+/// in
 /// one way.
 pub fn scenarios_have_one_spelling()
     ensures spelling { HasOneSpelling scenario_lines }

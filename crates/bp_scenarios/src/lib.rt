@@ -1,9 +1,20 @@
-//! Many what-if questions on one problem: each a list of changes, answered by the optimum and the least prices after it.
+//! Many what-if questions on one problem: each a list of changes, answered by the optimum and the least prices after
+//! it.
 //!
 //!     let lists = read_scenarios(alloc, &base, bytes)?;            // or `Changes::new` of one's own lists
 //!     for outcome in &scenarios(&rt, alloc, &base, &lists)? { .. } // one for each list, in order
 //!
 //! Each answer is of the base after its own list alone, so how many threads work on the lists changes nothing.
+//!
+//! The answers to the scenarios of a text, written one a line.
+//!
+//! ```
+//! let base = three_nights(alloc, rooms)?;
+//! let lists = read_scenarios(alloc, &base, text)?;
+//! let outcomes = scenarios(rt, alloc, &base, &lists)?;
+//! let mut out = MemorySink::new(Vec::new(alloc));
+//! write_outcomes(alloc, &outcomes, &mut out)?;
+//! ```
 #![tactic(auto)]
 
 mod alone;

@@ -36,7 +36,8 @@ fn draft_outcomes<K: Sink>(
     outcomes: &[Outcome],
     out: &mut K,
 ) -> Result<(), WriteError>
-    ensures writes { Drafts (K.written out.old) (K.written out.new) draft.old draft.new (text_of (outcome_lines 1 outcomes.now)) result }
+    ensures writes { Drafts (K.written out.old) (K.written out.new) draft.old draft.new
+        (text_of (outcome_lines 1 outcomes.now)) result }
     ensures failed { IsErrOf result WriteError.Failed → Rose (K.faults out.old) (K.faults out.new) }
     ensures unfailing { K.steady out.old → ¬ IsErrOf result WriteError.Failed }
     ensures steady { K.steady out.old → K.steady out.new }
@@ -61,7 +62,8 @@ fn draft_outcome<K: Sink>(
     out: &mut K,
 ) -> Result<(), WriteError>
     requires { line.old.items ≡ [] }
-    ensures writes { Drafts (K.written out.old) (K.written out.new) draft.old draft.new (text_of (outcome_line number outcome.now ∷ [])) result }
+    ensures writes { Drafts (K.written out.old) (K.written out.new) draft.old draft.new
+        (text_of (outcome_line number outcome.now ∷ [])) result }
     ensures failed { IsErrOf result WriteError.Failed → Rose (K.faults out.old) (K.faults out.new) }
     ensures unfailing { K.steady out.old → ¬ IsErrOf result WriteError.Failed }
     ensures steady { K.steady out.old → K.steady out.new }

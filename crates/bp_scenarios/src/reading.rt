@@ -22,7 +22,8 @@ pub fn read_scenarios(
     base: &Instance,
     bytes: &[u8],
 ) -> Result<Vec<Changes>, TextError>
-    ensures text { IsText scenario_lines (AreWithin (IsChangeWithin base.now)) bytes.now (seen_as (λ v. v.items) result) }
+    ensures text { IsText scenario_lines (AreWithin (IsChangeWithin base.now)) bytes.now
+        (seen_as (λ v. v.items) result) }
     ensures askable { IfOk result (λ v. All (IsAskable base.now) v.items) }
 {
     read_of(
@@ -37,7 +38,8 @@ pub fn read_scenarios(
 
 /// The same, of a problem of this size.
 fn read_of(alloc: Global, bytes: &[u8], size: Size) -> Result<Vec<Changes>, TextError>
-    ensures { IsText scenario_lines (AreWithin (IsChangeOf size.nights size.stays)) bytes.now (seen_as (λ v. v.items) result) }
+    ensures { IsText scenario_lines (AreWithin (IsChangeOf size.nights size.stays)) bytes.now
+        (seen_as (λ v. v.items) result) }
 {
     let mut lines = Lines::new(bytes);
     let lists = read_lines(alloc, &mut lines, size)?;
@@ -47,7 +49,8 @@ fn read_of(alloc: Global, bytes: &[u8], size: Size) -> Result<Vec<Changes>, Text
 
 /// Reads all lines, from the first one to the last.
 fn read_lines(alloc: Global, lines: &mut Lines<'_>, size: Size) -> Result<Vec<Changes>, TextError>
-    ensures { IsReading scenario_lines (AreWithin (IsChangeOf size.nights size.stays)) lines.old lines.new (seen_as (λ v. v.items) result) }
+    ensures { IsReading scenario_lines (AreWithin (IsChangeOf size.nights size.stays)) lines.old lines.new
+        (seen_as (λ v. v.items) result) }
 {
     first_line(lines)?;
     read_rows(alloc, lines, size)

@@ -66,7 +66,8 @@ fn rooms_of(instance: &Instance, night: u32) -> u64
 fn moves_past(rooms: u64, covered: bool, up: bool, units: u64) -> bool
     requires rooms { rooms ≤ MOST_UNITS }
     requires units { units ≤ MOST_ROOMS }
-    ensures { result ≡ (nat_lt rooms (if up then 0 else (if covered then units else 0)) || nat_lt MOST_ROOMS (if covered then moved rooms up units else rooms)) }
+    ensures { result ≡ (nat_lt rooms (if up then 0 else (if covered then units else 0)) || nat_lt MOST_ROOMS
+        (if covered then moved rooms up units else rooms)) }
 {
     if !covered {
         return rooms > MOST_ROOMS;

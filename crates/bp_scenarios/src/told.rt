@@ -1,5 +1,19 @@
 //! A change as the words of its line tell it.
-ghost use Rattle.std.specs.Prelude.{◌≡◌, ℕ, ◌<◌, ◌≤◌, ◌∷◌, ◌||◌, nat_le, nat_lt, if◌then◌else◌, Bool, List, MatchOption, codes};
+ghost use Rattle.std.specs.Prelude.{
+  ◌≡◌,
+  ℕ,
+  ◌<◌,
+  ◌≤◌,
+  ◌∷◌,
+  ◌||◌,
+  nat_le,
+  nat_lt,
+  if◌then◌else◌,
+  Bool,
+  List,
+  MatchOption,
+  codes,
+};
 ghost use Rattle.bp_text.specs.Numbers.{spelled};
 ghost use Rattle.bp_text.specs.Words.{Word, IsCounted};
 ghost use Rattle.bp_scenarios.specs.declared.told.Found.TheVariants.{Great, Whole};
@@ -138,7 +152,8 @@ fn is_up(words: &mut Words<'_>) -> Option<bool>
 
 /// Whether these are no nights in order, or no rooms that may be asked about.
 fn is_no_move(from: Counted, to: Counted, units: Counted) -> bool
-    ensures { result ≡ ((from.great || to.great) || (units.great || (nat_le to.value from.value || nat_lt units.value 1))) }
+    ensures { result ≡ ((from.great || to.great) ||
+        (units.great || (nat_le to.value from.value || nat_lt units.value 1))) }
 {
     (from.great || to.great) || (units.great || (to.value <= from.value || units.value < 1))
 }
@@ -202,7 +217,8 @@ fn is_no_rate(rate: Counted) -> bool
 fn two(words: &mut Words<'_>, first: u32, second: u64) -> Option<(Counted, Counted)>
     ensures { MatchOption result
         ((m n : ℕ) (more : List Word) → words.old ≡ spelled m ∷ spelled n ∷ more → ⊥)
-        (λ r. (m : ℕ) × (n : ℕ) × (words.old ≡ spelled m ∷ spelled n ∷ words.new) × IsCounted first m r.0 × IsCounted second n r.1) }
+        (λ r. (m : ℕ) × (n : ℕ) × (words.old ≡ spelled m ∷ spelled n ∷ words.new) × IsCounted first m r.0 ×
+        IsCounted second n r.1) }
 {
     let Some(one) = words.number(u128::from(first)) else {
         return None;

@@ -1,5 +1,35 @@
 -- What a request tells that was read of a row: its session and its command are within their limits.
-use Rattle.std.proofs.Common.{◌≡◌, ◌∙◌, sym, ap, refl, subst, ℕ, ◌+◌, ◌≤◌, ◌<◌, Bool, true, false, cond, ◌&&◌, nat_le, nat_lt, List, [], length, get_or, Option, Some, None, Result, Ok, Err, IsTrue, arith}
+use Rattle.std.proofs.Common.{
+  ◌≡◌,
+  ◌∙◌,
+  sym,
+  ap,
+  refl,
+  subst,
+  ℕ,
+  ◌+◌,
+  ◌≤◌,
+  ◌<◌,
+  Bool,
+  true,
+  false,
+  cond,
+  ◌&&◌,
+  nat_le,
+  nat_lt,
+  List,
+  [],
+  length,
+  get_or,
+  Option,
+  Some,
+  None,
+  Result,
+  Ok,
+  Err,
+  IsTrue,
+  arith,
+}
 use Rattle.std.specs.Option.{ok_or}
 use Rattle.std.proofs.lemmas.Bool.{and_parts, leb-true, ltb-true, le-leb, lt-ltb}
 use Rattle.bp_types.specs.declared.stay.Span.{Span}
@@ -28,7 +58,23 @@ use Rattle.bp_types.specs.declared.limits.TheConstants.{MOST_SESSIONS}
 use Rattle.bp_script.specs.declared.verb.Verb.{Verb}
 use Rattle.bp_script.specs.declared.verb.Verb.TheVariants as verb
 use Rattle.bp_script.specs.Verbs.{verb_in}
-use Rattle.bp_script.specs.Commands.{stay_in, number_within, nights_in, night_in, book_in, cancel_in, reforecast_in, reprice_in, resize_in, group_in, item_cell, nights_cell, rooms_cell, amount_cell, command_in}
+use Rattle.bp_script.specs.Commands.{
+  stay_in,
+  number_within,
+  nights_in,
+  night_in,
+  book_in,
+  cancel_in,
+  reforecast_in,
+  reprice_in,
+  resize_in,
+  group_in,
+  item_cell,
+  nights_cell,
+  rooms_cell,
+  amount_cell,
+  command_in,
+}
 use Rattle.bp_script.specs.Scripts.{session_of, session_in, room_in, request_in}
 
 -- what was passed, where what comes after it was passed
@@ -78,7 +124,8 @@ night_in-tells line (Ok n) night e = (cc)
 night_in-tells line (Err x) night e = absurd (cc)
 
 -- a span has a night at least, and ends within the hotel's
-span_in-tells : (line total : ℕ) (arrival : Result ℕ DateError) (nights : ℕ) (s : Span) → 1 ≤ nights → span_in line total arrival nights ≡ Ok s → (s.from < s.to) × (s.to ≤ total)
+span_in-tells : (line total : ℕ) (arrival : Result ℕ DateError) (nights : ℕ) (s : Span) → 1 ≤ nights → span_in line total arrival nights ≡ Ok s →
+    (s.from < s.to) × (s.to ≤ total)
 span_in-tells line total (Ok from) nights s some e =
     let (fits, same) = tested (nat_le (from + nights) total) (record { from = from; to = from + nights }) (Outside line) s e in
     let starts = ap (λ (x : Span). x.from) same in
@@ -108,7 +155,8 @@ module _ (h : Inn) (season : Season) (codes : List (List ℕ)) (nights : length 
 
   reforecast_fits : (line : ℕ) (item amount : List ℕ) (c : Command) → reforecast_in codes line item amount ≡ Ok c → Fits h c
   reforecast_fits line item amount c e =
-      let (stay, named, more) = passed (stay_in codes line item) (λ stay. number_within 0 MOST_FORECAST line amount >>= (λ count. Ok (Reforecast stay count))) c e in
+      let (stay, named, more) =
+      passed (stay_in codes line item) (λ stay. number_within 0 MOST_FORECAST line amount >>= (λ count. Ok (Reforecast stay count))) c e in
       let (count, number, is) = passed (number_within 0 MOST_FORECAST line amount) (λ count. Ok (Reforecast stay count)) c more in
       let same : Reforecast stay count ≡ c = (cc) in
       let most = at_most 0 MOST_FORECAST count (number_within-tells 0 MOST_FORECAST line amount count number) in
@@ -124,7 +172,8 @@ module _ (h : Inn) (season : Season) (codes : List (List ℕ)) (nights : length 
   resize_fits : (line : ℕ) (item rooms : List ℕ) (c : Command) → resize_in line (night_of season item) rooms ≡ Ok c → Fits h c
   resize_fits line item rooms c e =
       let date = night_of season item in
-      let (u, dated, more) = passed (date_in line date) (λ _. number_within 0 MOST_ROOMS line rooms >>= (λ rooms. night_in line date >>= (λ night. Ok (Resize night rooms)))) c e in
+      let (u, dated, more) = passed (date_in line date)
+      (λ _. number_within 0 MOST_ROOMS line rooms >>= (λ rooms. night_in line date >>= (λ night. Ok (Resize night rooms)))) c e in
       let (n, number, last) = passed (number_within 0 MOST_ROOMS line rooms) (λ rooms. night_in line date >>= (λ night. Ok (Resize night rooms))) c more in
       let (night, there, is) = passed (night_in line date) (λ night. Ok (Resize night n)) c last in
       let same : Resize night n ≡ c = (cc) in
@@ -132,7 +181,8 @@ module _ (h : Inn) (season : Season) (codes : List (List ℕ)) (nights : length 
       let within = lt-ltb night (length h.rooms) (omega (arith, nights, night_of-tells season item night (night_in-tells line date night there))) in
       subst (Fits h) same (rw (within, most) refl)
 
-  group_fits : (line : ℕ) (arrival : Result ℕ DateError) (stayed rooms amount : List ℕ) (c : Command) → group_in line (length season.rooms) arrival stayed rooms amount ≡ Ok c → Fits h c
+  group_fits : (line : ℕ) (arrival : Result ℕ DateError) (stayed rooms amount : List ℕ) (c : Command) →
+      group_in line (length season.rooms) arrival stayed rooms amount ≡ Ok c → Fits h c
   group_fits line arrival stayed rooms amount c e =
       let (u, dated, one) = passed (date_in line arrival) _ c e in
       let (n, some, two) = passed (nights_in line stayed) _ c one in
@@ -177,7 +227,8 @@ session_of-tells line (Some n) session e =
     omega (arith, leb-true n MOST_SESSIONS (at_most 1 MOST_SESSIONS n test), same)
 
 -- a request's session is one that there may be
-pub request-session : (season : Season) (codes : List (List ℕ)) (before : ℕ) (row : Record) (r : Request) → request_in season codes before row ≡ Ok r → r.session ≤ MOST_SESSIONS
+pub request-session : (season : Season) (codes : List (List ℕ)) (before : ℕ) (row : Record) (r : Request) → request_in season codes before row ≡ Ok r →
+    r.session ≤ MOST_SESSIONS
 request-session season codes before row r e =
     let line = before + 2 in
     let (session, named, one) = passed (session_in line (get_or row 0 [])) _ r e in
@@ -192,7 +243,8 @@ request-session season codes before row r e =
     session_or s (Err x) = s
 
 -- a request is read where there is room for one more
-pub request-room : (season : Season) (codes : List (List ℕ)) (before : ℕ) (row : Record) (r : Request) → request_in season codes before row ≡ Ok r → before < MOST_ENTRIES
+pub request-room : (season : Season) (codes : List (List ℕ)) (before : ℕ) (row : Record) (r : Request) → request_in season codes before row ≡ Ok r →
+    before < MOST_ENTRIES
 request-room season codes before row r e =
     let line = before + 2 in
     let (session, named, one) = passed (session_in line (get_or row 0 [])) _ r e in

@@ -1,5 +1,37 @@
 -- What holds of each request that was read holds of the commands of every session.
-use Rattle.std.proofs.Common.{◌≡◌, ℕ, zero, suc, ◌+◌, ◌<◌, ◌≤◌, ◌==◌, refl, ap, ◌∙◌, Bool, cond, inl, inr, List, [], ◌∷◌, ◌++◌, map, length, get_or, Option, Some, None, Result, Ok, Err, IsTrue, arith, length-append}
+use Rattle.std.proofs.Common.{
+  ◌≡◌,
+  ℕ,
+  zero,
+  suc,
+  ◌+◌,
+  ◌<◌,
+  ◌≤◌,
+  ◌==◌,
+  refl,
+  ap,
+  ◌∙◌,
+  Bool,
+  cond,
+  inl,
+  inr,
+  List,
+  [],
+  ◌∷◌,
+  ◌++◌,
+  map,
+  length,
+  get_or,
+  Option,
+  Some,
+  None,
+  Result,
+  Ok,
+  Err,
+  IsTrue,
+  arith,
+  length-append,
+}
 use Rattle.std.specs.Prelude.{max, fold, filter, count_by, All}
 use Rattle.std.specs.List.{range_with_len, sum_by}
 use Rattle.std.proofs.lemmas.Bool.{cases_Bool, eqb-true}
@@ -25,12 +57,14 @@ unstopped : {A : Type 0} (stop : Option ℕ) (read answers : List A) → unless_
 unstopped None read answers e = (cc)
 unstopped (Some line) read answers e = absurd (cc)
 
-module _ {A : Type 0} (P : List A → Type 0) (rule : List A → Record → Result A TableRefusal) (none : P []) (more : (before : List A) (row : Record) (a : A) → rule before row ≡ Ok a → P before → P (before ++ a ∷ [])) where
+module _ {A : Type 0} (P : List A → Type 0) (rule : List A → Record → Result A TableRefusal) (none : P []) (more : (before : List A) (row : Record) (a : A) →
+    rule before row ≡ Ok a → P before → P (before ++ a ∷ [])) where
   -- what holds of no answers, and of one answer more by the rule, holds of the answers of all rows
   rows_keep : (rows : List Record) (n : ℕ) (answers : List A) → rows_read rule rows n ≡ Ok answers → P answers
   rows_keep rows zero answers e = let nothing : [] ≡ answers = (cc) in rw (← nothing) none
   rows_keep rows (suc n) answers e =
-      let (before, so_far, next) = passed (rows_read rule rows n) (λ before. rule before (get_or rows n []) >>= (λ answer. Ok (before ++ answer ∷ []))) answers e in
+      let (before, so_far, next) =
+      passed (rows_read rule rows n) (λ before. rule before (get_or rows n []) >>= (λ answer. Ok (before ++ answer ∷ []))) answers e in
       let (answer, here, is) = passed (rule before (get_or rows n [])) (λ answer. Ok (before ++ answer ∷ [])) answers next in
       let same : before ++ answer ∷ [] ≡ answers = (cc) in
       rw (← same) (more before (get_or rows n []) answer here (rows_keep rows n before so_far))
@@ -46,7 +80,8 @@ module _ {A : Type 0} (P : List A → Type 0) (rule : List A → Record → Resu
       table_keeps table answers is
 
 -- each answer keeps what the rule gives
-each_keeps : {A : Type 0} (P : A → Type 0) (rule : List A → Record → Result A TableRefusal) → ((before : List A) (row : Record) (a : A) → rule before row ≡ Ok a → P a)
+each_keeps : {A : Type 0} (P : A → Type 0) (rule : List A → Record → Result A TableRefusal) →
+    ((before : List A) (row : Record) (a : A) → rule before row ≡ Ok a → P a)
     → (columns : List Column) (bytes : List ℕ) (answers : List A) → (table_of columns bytes >>= table_read rule) ≡ Ok answers → All P answers
 each_keeps P rule each = file_keeps (All P) rule (All-nil P) (λ before row a h all. All-push P before a all (each before row a h))
 
@@ -59,14 +94,16 @@ by_session-keeps P requests all =
     (All-filter (λ r. r.session == get_or (range_with_len 1 (greatest_session requests)) i 0) (λ r. P r.command) requests all)))
 
 -- the greatest session is one that there may be
-greatest-few : (requests : List Request) (most : ℕ) → most ≤ MOST_SESSIONS → All (λ r. r.session ≤ MOST_SESSIONS) requests → fold (λ most r. max most r.session) most requests ≤ MOST_SESSIONS
+greatest-few : (requests : List Request) (most : ℕ) → most ≤ MOST_SESSIONS → All (λ r. r.session ≤ MOST_SESSIONS) requests →
+    fold (λ most r. max most r.session) most requests ≤ MOST_SESSIONS
 greatest-few [] most few all = few
 greatest-few (r ∷ requests) most few all =
     let P : Request → Type 0 = λ r. r.session ≤ MOST_SESSIONS in
     greatest-few requests (max most r.session) (omega (arith, All-head P r requests all)) (All-tail P r requests all)
 
 -- a request is read where there is room for it
-request_has_room : (season : Season) (codes : List (List ℕ)) (before : List Request) (row : Record) (r : Request) → request_rule season codes before row ≡ Ok r → length before ≤ MOST_ENTRIES → length (before ++ r ∷ []) ≤ MOST_ENTRIES
+request_has_room : (season : Season) (codes : List (List ℕ)) (before : List Request) (row : Record) (r : Request) →
+    request_rule season codes before row ≡ Ok r → length before ≤ MOST_ENTRIES → length (before ++ r ∷ []) ≤ MOST_ENTRIES
 request_has_room season codes before row r e few = omega (arith, request-room season codes (length before) row r e, length-append before (r ∷ []))
 
 -- a number stands at most once among numbers that count up
@@ -90,12 +127,17 @@ once s first (suc n) =
 one_more : (r : Request) (requests : List Request) (s : ℕ) → length (commands_of (r ∷ requests) s) ≡ cond (r.session == s) 1 0 + length (commands_of requests s)
 one_more r requests s =
     elim (cases_Bool (r.session == s)) [
-      | inl t ↦ ap (λ b. length (map (λ (q : Request). q.command) (cond b (r ∷ filter (λ q. q.session == s) requests) (filter (λ q. q.session == s) requests)))) t ∙ omega (arith, ap (λ (b : Bool). cond {A = ℕ} b 1 0) t)
-      | inr f ↦ ap (λ b. length (map (λ (q : Request). q.command) (cond b (r ∷ filter (λ q. q.session == s) requests) (filter (λ q. q.session == s) requests)))) f ∙ omega (arith, ap (λ (b : Bool). cond {A = ℕ} b 1 0) f)
+      | inl t ↦ ap (λ b. length
+          (map (λ (q : Request). q.command) (cond b (r ∷ filter (λ q. q.session == s) requests) (filter (λ q. q.session == s) requests)))) t ∙
+          omega (arith, ap (λ (b : Bool). cond {A = ℕ} b 1 0) t)
+      | inr f ↦ ap (λ b. length
+          (map (λ (q : Request). q.command) (cond b (r ∷ filter (λ q. q.session == s) requests) (filter (λ q. q.session == s) requests)))) f ∙
+          omega (arith, ap (λ (b : Bool). cond {A = ℕ} b 1 0) f)
     ]
 
 -- the same over some sessions
-one_more_of : (r : Request) (requests : List Request) (sessions : List ℕ) → sum_by length (map (commands_of (r ∷ requests)) sessions) ≡ count_by (λ s. r.session == s) sessions + sum_by length (map (commands_of requests) sessions)
+one_more_of : (r : Request) (requests : List Request) (sessions : List ℕ) →
+    sum_by length (map (commands_of (r ∷ requests)) sessions) ≡ count_by (λ s. r.session == s) sessions + sum_by length (map (commands_of requests) sessions)
 one_more_of r requests [] = refl
 one_more_of r requests (s ∷ sessions) =
     omega (
@@ -132,7 +174,8 @@ sessions_few season codes bytes script e =
     let (requests, here, is) = passed (requests_file season codes bytes) (λ requests. Ok (by_session requests)) script e in
     let same : by_session requests ≡ script = (cc) in
     let P : Request → Type 0 = λ r. r.session ≤ MOST_SESSIONS in
-    let all = each_keeps P (request_rule season codes) (λ before row r h. request-session season codes (length before) row r h) script_columns bytes requests here in
+    let all = each_keeps P (request_rule season codes) (λ before row r h. request-session season codes (length before) row r h)
+    script_columns bytes requests here in
     let size = length-map-range_with_len (commands_of requests) 1 (greatest_session requests) in
     rw (← same) (omega (arith, size, greatest-few requests 0 (omega arith) all))
 
@@ -142,5 +185,6 @@ commands_fit season codes bytes script h nights stays e =
     let (requests, here, is) = passed (requests_file season codes bytes) (λ requests. Ok (by_session requests)) script e in
     let same : by_session requests ≡ script = (cc) in
     let P : Command → Type 0 = λ c. IsTrue (is_command_in_range h c) in
-    let all = each_keeps (λ r. P r.command) (request_rule season codes) (λ before row r is. request_fits h season codes nights stays (length before) row r is) script_columns bytes requests here in
+    let all = each_keeps (λ r. P r.command) (request_rule season codes) (λ before row r is. request_fits h season codes nights stays (length before) row r is)
+    script_columns bytes requests here in
     rw (← same) (by_session-keeps P requests all)

@@ -1,5 +1,26 @@
 -- The script: what each row asks of a session, and the commands of each session.
-use Rattle.std.specs.Prelude.{ℕ, ◌+◌, max, nat_lt, ◌==◌, if◌then◌else◌, List, [], ◌∷◌, map, filter, fold, length, slice_index_or, Option, Some, None, Result, Ok, Err}
+use Rattle.std.specs.Prelude.{
+  ℕ,
+  ◌+◌,
+  max,
+  nat_lt,
+  ◌==◌,
+  if◌then◌else◌,
+  List,
+  [],
+  ◌∷◌,
+  map,
+  filter,
+  fold,
+  length,
+  slice_index_or,
+  Option,
+  Some,
+  None,
+  Result,
+  Ok,
+  Err,
+}
 use Rattle.std.specs.List.{range_with_len}
 use Rattle.bp_types.specs.declared.command.Command.{Command}
 use Rattle.bp_types.specs.declared.limits.TheConstants.{MOST_ENTRIES}

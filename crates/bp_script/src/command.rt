@@ -1,5 +1,13 @@
 ghost use Rattle.std.specs.Prelude.{◌≡◌, length};
-ghost use Rattle.bp_script.specs.Commands.{book_in, cancel_in, reforecast_in, reprice_in, resize_in, group_in, command_in};
+ghost use Rattle.bp_script.specs.Commands.{
+  book_in,
+  cancel_in,
+  reforecast_in,
+  reprice_in,
+  resize_in,
+  group_in,
+  command_in,
+};
 
 use crate::cells::{night_in, nights_in, number_within, stay_in};
 use crate::verb::Verb;

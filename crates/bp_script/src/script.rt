@@ -2,7 +2,14 @@ ghost use Rattle.std.specs.Prelude.{◌≡◌, map, length, IfOk, IfErr, Ok, Err
 ghost use Rattle.bp_stayfile.specs.Reading.{table_read};
 ghost use Rattle.bp_stayfile.specs.Refusals.{IfRefused};
 ghost use Rattle.bp_stayfile.specs.Tables.{IsHeaderOf, table_of};
-ghost use Rattle.bp_script.specs.Scripts.{request_rule, script_columns, commands_of, greatest_session, by_session, script_file};
+ghost use Rattle.bp_script.specs.Scripts.{
+  request_rule,
+  script_columns,
+  commands_of,
+  greatest_session,
+  by_session,
+  script_file,
+};
 
 use crate::Commands;
 use crate::request::{Request, request_in};

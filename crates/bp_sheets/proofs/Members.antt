@@ -2,7 +2,8 @@
 use Rattle.std.proofs.Common.{◌≡◌, ℕ, zero, suc, refl, ap, sym, subst, arith, List, [], ◌∷◌, ◌++◌, length, Option, Some, None, inl, inr}
 use Rattle.std.specs.Prelude.{◌⊎◌, slice_get}
 
-pub member_of_more : {X : Type 0} (xs : List X) (x y : X) (n : ℕ) → slice_get (xs ++ x ∷ []) n ≡ Some y → (slice_get xs n ≡ Some y) ⊎ ((n ≡ length xs) × (x ≡ y))
+pub member_of_more : {X : Type 0} (xs : List X) (x y : X) (n : ℕ) → slice_get (xs ++ x ∷ []) n ≡ Some y →
+    (slice_get xs n ≡ Some y) ⊎ ((n ≡ length xs) × (x ≡ y))
 member_of_more [] x y zero is = inr (refl, (cc))
 member_of_more [] x y (suc n) is = absurd (cc)
 member_of_more (z ∷ xs) x y zero is = inl is
@@ -22,7 +23,8 @@ each_of_more P xs x each last n y is =
     ]
 
 -- lists of one length are one list where each member of the one is that of the other
-pub same_members : {X : Type 0} (xs ys : List X) → length xs ≡ length ys → ((n : ℕ) (x y : X) → slice_get xs n ≡ Some x → slice_get ys n ≡ Some y → x ≡ y) → xs ≡ ys
+pub same_members : {X : Type 0} (xs ys : List X) → length xs ≡ length ys → ((n : ℕ) (x y : X) → slice_get xs n ≡ Some x → slice_get ys n ≡ Some y → x ≡ y) →
+    xs ≡ ys
 same_members [] [] same each = refl
 same_members [] (y ∷ ys) same each = absurd (omega arith)
 same_members (x ∷ xs) [] same each = absurd (omega arith)

@@ -16,7 +16,8 @@ night_lines_more night (b ∷ bands) band last is =
     ∙ sym (append_assoc line (text_of (night_lines (night + 1) bands)) (text_of (night_line last band ∷ [])))
 
 arrival_lines_more : (prices : List ℕ) (night : ℕ) (lengths : List (Option ℕ)) (least : Option ℕ) (last : ℕ) → last ≡ night + length lengths →
-    text_of (arrival_lines prices night (lengths ++ least ∷ [])) ≡ text_of (arrival_lines prices night lengths) ++ text_of (arrival_line last least (hurdles prices last) ∷ [])
+    text_of (arrival_lines prices night (lengths ++ least ∷ [])) ≡
+    text_of (arrival_lines prices night lengths) ++ text_of (arrival_line last least (hurdles prices last) ∷ [])
 arrival_lines_more prices night [] least last is = ap (λ n. text_of (arrival_line n least (hurdles prices n) ∷ [])) (omega arith)
 arrival_lines_more prices night (k ∷ lengths) least last is =
     let line = arrival_line night k (hurdles prices night) ++ 10 ∷ [] in
@@ -25,7 +26,8 @@ arrival_lines_more prices night (k ∷ lengths) least last is =
 
 -- a text with the line of the next band behind it has the lines of one band more
 pub with_night : (front old new : List ℕ) (bands : List Band) (n : ℕ) (d : Band) → n < length bands →
-    old ≡ front ++ text_of (night_lines 0 (take n bands)) → new ≡ old ++ text_of (night_line n (get_or bands n d) ∷ []) → new ≡ front ++ text_of (night_lines 0 (take (n + 1) bands))
+    old ≡ front ++ text_of (night_lines 0 (take n bands)) → new ≡ old ++ text_of (night_line n (get_or bands n d) ∷ []) →
+    new ≡ front ++ text_of (night_lines 0 (take (n + 1) bands))
 with_night front old new bands n d within was is =
     let line = text_of (night_line n (get_or bands n d) ∷ []) in
     let lines = text_of (night_lines 0 (take n bands)) in
@@ -37,7 +39,8 @@ with_night front old new bands n d within was is =
 
 -- a text with the line of the next arrival behind it has the lines of one arrival more
 pub with_arrival : (front old new prices costs : List ℕ) (lengths : List (Option ℕ)) (n : ℕ) (d : Option ℕ) → n < length lengths → costs ≡ hurdles prices n →
-    old ≡ front ++ text_of (arrival_lines prices 0 (take n lengths)) → new ≡ old ++ text_of (arrival_line n (get_or lengths n d) costs ∷ []) → new ≡ front ++ text_of (arrival_lines prices 0 (take (n + 1) lengths))
+    old ≡ front ++ text_of (arrival_lines prices 0 (take n lengths)) → new ≡ old ++ text_of (arrival_line n (get_or lengths n d) costs ∷ []) →
+    new ≡ front ++ text_of (arrival_lines prices 0 (take (n + 1) lengths))
 with_arrival front old new prices costs lengths n d within same was is =
     let line = text_of (arrival_line n (get_or lengths n d) (hurdles prices n) ∷ []) in
     let lines = text_of (arrival_lines prices 0 (take n lengths)) in

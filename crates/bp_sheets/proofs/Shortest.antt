@@ -14,7 +14,8 @@ among_more p prices count arrival nights r =
       | inr above ↦ inr (subst (λ j. IsOpenAt p prices j arrival nights) (let among = r.among in omega arith) r.at)
     ]
 
-among_still : (p : Program) (prices : List ℕ) (count arrival nights : ℕ) → IsOpenAmong p prices count arrival nights → IsOpenAmong p prices (count + 1) arrival nights
+among_still : (p : Program) (prices : List ℕ) (count arrival nights : ℕ) → IsOpenAmong p prices count arrival nights →
+    IsOpenAmong p prices (count + 1) arrival nights
 among_still p prices count arrival nights r = record { stay = r.stay; among = (let among = r.among in omega arith); at = r.at }
 
 -- a stay that is not open, or arrives on another night, changes nothing
@@ -28,7 +29,8 @@ least_stays p prices count arrival (Some least) other is = (
 )
 
 -- with one more that is open there, the least is the fewer nights of both
-pub least_is_fewer : (p : Program) (prices : List ℕ) (count arrival here : ℕ) (least : Option ℕ) (new : ℕ) → IsOpenAt p prices count arrival here → MatchOption least (new ≡ here) (λ l. new ≡ min l here) →
+pub least_is_fewer : (p : Program) (prices : List ℕ) (count arrival here : ℕ) (least : Option ℕ) (new : ℕ) → IsOpenAt p prices count arrival here →
+    MatchOption least (new ≡ here) (λ l. new ≡ min l here) →
     IsLeastAmong p prices count arrival least → IsLeastAmong p prices (count + 1) arrival (Some new)
 least_is_fewer p prices count arrival here None new at is none = (
   record { stay = count; among = omega arith; at = subst (IsOpenAt p prices count arrival) (sym is) at },

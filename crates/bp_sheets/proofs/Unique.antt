@@ -23,13 +23,15 @@ gain_is_one unique p night a b g h =
     let two = h.difference in
     omega arith
 
-gains_are_one : OptimumIsUnique → (p : Program) (night : ℕ) (a b : Option ℕ) → MatchOption a (slice_index p.rooms night ≡ MOST_ROOMS) (IsGain p night) → MatchOption b (slice_index p.rooms night ≡ MOST_ROOMS) (IsGain p night) → a ≡ b
+gains_are_one : OptimumIsUnique → (p : Program) (night : ℕ) (a b : Option ℕ) → MatchOption a (slice_index p.rooms night ≡ MOST_ROOMS) (IsGain p night) →
+    MatchOption b (slice_index p.rooms night ≡ MOST_ROOMS) (IsGain p night) → a ≡ b
 gains_are_one unique p night None None a b = refl
 gains_are_one unique p night None (Some g) full is = absurd (let space = is.has_space in omega arith)
 gains_are_one unique p night (Some g) None is full = absurd (let space = is.has_space in omega arith)
 gains_are_one unique p night (Some g) (Some h) a b = ap Some (gain_is_one unique p night g h a b)
 
-losses_are_one : DisplacementIsUnique → (p : Program) (night : ℕ) (a b : Option ℕ) → MatchOption a (slice_index p.rooms night ≡ 0) (IsLoss p night) → MatchOption b (slice_index p.rooms night ≡ 0) (IsLoss p night) → a ≡ b
+losses_are_one : DisplacementIsUnique → (p : Program) (night : ℕ) (a b : Option ℕ) → MatchOption a (slice_index p.rooms night ≡ 0) (IsLoss p night) →
+    MatchOption b (slice_index p.rooms night ≡ 0) (IsLoss p night) → a ≡ b
 losses_are_one unique p night None None a b = refl
 losses_are_one unique p night None (Some l) none is = absurd (let has = is.displacement.has_units night (omega arith) (omega arith) in omega arith)
 losses_are_one unique p night (Some l) None is none = absurd (let has = is.displacement.has_units night (omega arith) (omega arith) in omega arith)
@@ -43,7 +45,8 @@ band_is_one optimum displacement p price night a b is also =
     let made : ℕ → Option ℕ → Option ℕ → Band = λ x g l. record { price = x; gain = g; loss = l } in
     ap (λ x. made x a.gain a.loss) prices ∙ ap (λ g. made b.price g a.loss) gains ∙ ap (λ l. made b.price b.gain l) losses
 
-lengths_are_one : (p : Program) (prices : List ℕ) (count arrival : ℕ) (a b : Option ℕ) → IsLeastAmong p prices count arrival a → IsLeastAmong p prices count arrival b → a ≡ b
+lengths_are_one : (p : Program) (prices : List ℕ) (count arrival : ℕ) (a b : Option ℕ) → IsLeastAmong p prices count arrival a →
+    IsLeastAmong p prices count arrival b → a ≡ b
 lengths_are_one p prices count arrival None None a b = refl
 lengths_are_one p prices count arrival None (Some k) none is = absurd (none k is.0)
 lengths_are_one p prices count arrival (Some k) None is none = absurd (none k is.0)
@@ -56,7 +59,8 @@ sheets_are_unique optimum least displacement p a b is also =
     let bands : is.bands ≡ also.bands = same_members is.bands also.bands (is.priced.beside.one_each ∙ sym other.beside.one_each) (λ n x y at there.
     band_is_one optimum displacement p (slice_index is.prices n) n x y (is.priced.beside.each n x at) (other.beside.each n y there)) in
     let lengths : is.lengths ≡ also.lengths = same_members is.lengths also.lengths (is.shortest.one_each ∙ sym also.shortest.one_each) (λ n x y at there.
-    lengths_are_one p is.prices (length p.stays) n x y (is.shortest.each n x at) (subst (λ l. IsLeastAmong p l (length p.stays) n y) (sym prices) (also.shortest.each n y there))) in
+    lengths_are_one p is.prices (length p.stays) n x y (is.shortest.each n x at)
+    (subst (λ l. IsLeastAmong p l (length p.stays) n y) (sym prices) (also.shortest.each n y there))) in
     is.text_is ∙ ap (λ bs. text_of (night_lines 0 bs) ++ text_of (arrival_lines is.prices 0 is.lengths)) bands
     ∙ ap (λ ks. text_of (night_lines 0 also.bands) ++ text_of (arrival_lines is.prices 0 ks)) lengths
     ∙ ap (λ l. text_of (night_lines 0 also.bands) ++ text_of (arrival_lines l 0 also.lengths)) prices ∙ sym also.text_is

@@ -18,7 +18,8 @@ amount_text (Some n) = spelled n
 -- `night N price P gain G loss L`
 abbrev pub night_line : ℕ → Band → Line
 night_line night band =
-    (codes "night " ++ spelled night) ++ (codes " price " ++ spelled band.price) ++ (codes " gain " ++ amount_text band.gain) ++ (codes " loss " ++ amount_text band.loss)
+    (codes "night " ++ spelled night) ++ (codes " price " ++ spelled band.price) ++ (codes " gain " ++ amount_text band.gain) ++
+    (codes " loss " ++ amount_text band.loss)
 
 -- how long a stay has to be, or that the arrival is closed
 abbrev pub least_text : Option ℕ → List ℕ

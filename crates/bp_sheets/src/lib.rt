@@ -5,6 +5,16 @@
 //!
 //!     for band in &bands(alloc, &problem)? { .. }          // one for each night
 //!     sheet(alloc, &problem, out)?;                        // night 0 price 60 gain 60 loss 90 ..
+//!
+//! The bands of a night without rooms and of one with all of them.
+//!
+//! ```
+//! let found = bands(alloc, &instance)?;
+//! assert_eq!(rt; found.len(), 2);
+//! assert_eq!(rt; found[0].price, 100);
+//! assert_eq!(rt; found[0].gain, Some(100));
+//! assert_eq!(rt; found[0].loss, None);
+//! ```
 #![tactic(auto)]
 
 mod band;

@@ -22,7 +22,8 @@ pub(crate) fn gain_of<L: Ledger>(
     requires optimum { IsOptimum solver.now.flow.program value }
     requires in_range { night < length solver.now.flow.program.rooms }
     requires rooms { slice_index solver.now.flow.program.rooms night ≤ MOST_ROOMS }
-    ensures { IfOk result (λ gain. MatchOption gain (slice_index solver.now.flow.program.rooms night ≡ MOST_ROOMS) (IsGain solver.now.flow.program night)) }
+    ensures { IfOk result (λ gain. MatchOption gain (slice_index solver.now.flow.program.rooms night ≡
+        MOST_ROOMS) (IsGain solver.now.flow.program night)) }
 {
     if solver.rooms(night) == MOST_ROOMS {
         return Ok(None);
@@ -41,7 +42,8 @@ pub(crate) fn loss_of<L: Ledger>(
 ) -> Result<Option<u128>, Memory>
     requires optimum { IsOptimum solver.now.flow.program value }
     requires in_range { night < length solver.now.flow.program.rooms }
-    ensures { IfOk result (λ loss. MatchOption loss (slice_index solver.now.flow.program.rooms night ≡ 0) (IsLoss solver.now.flow.program night)) }
+    ensures { IfOk result (λ loss. MatchOption loss (slice_index solver.now.flow.program.rooms night ≡
+        0) (IsLoss solver.now.flow.program night)) }
 {
     if solver.rooms(night) == 0 {
         return Ok(None);

@@ -89,7 +89,8 @@ fn push_arrivals(
     lengths: &[Option<u32>],
 ) -> Result<(), AllocError>
     requires { length lengths.now ≡ length board.now.certificate.prices }
-    ensures { OnOk result (text.new.items ≡ text.old.items ++ text_of (arrival_lines board.now.certificate.prices 0 lengths.now)) }
+    ensures { OnOk result (text.new.items ≡
+        text.old.items ++ text_of (arrival_lines board.now.certificate.prices 0 lengths.now)) }
 {
     for arrival in 0..board.nights() {
         let hurdles = hurdles(alloc, board, arrival)?;

@@ -18,10 +18,13 @@ abbrev Each : TableId → List (Option Name) → Type 0
 Each t views = (seat : ℕ) (n : Name) → get_elem? views seat ≡ some (Some n) → n.table ≡ t
 
 pushed : (t : TableId) (views : List (Option Name)) (w : Option Name) → Of t w → Each t views → Each t (views ++ w ∷ [])
-pushed t views w p each seat n at = ⊎_elim (λ (h : get_elem? views seat ≡ some (Some n)). each seat n h) (λ (e : w ≡ Some n). p n e) (at_snoc views w (Some n) seat at)
+pushed t views w p each seat n at =
+    ⊎_elim (λ (h : get_elem? views seat ≡ some (Some n)). each seat n h) (λ (e : w ≡ Some n). p n e) (at_snoc views w (Some n) seat at)
 
 changed : (t : TableId) (views : List (Option Name)) (seat : ℕ) (w : Option Name) → Of t w → Each t views → Each t (set views seat w)
-changed t views seat w p each j n at = ⊎_elim (λ (h : (j ≡ seat) × (w ≡ Some n)). p n h.1) (λ (h : (j ≢ seat) × (get_elem? views j ≡ some (Some n))). each j n h.1) (at_set views seat j w (Some n) at)
+changed t views seat w p each j n at =
+    ⊎_elim (λ (h : (j ≡ seat) × (w ≡ Some n)). p n h.1) (λ (h : (j ≢ seat) × (get_elem? views j ≡ some (Some n))). each j n h.1)
+    (at_set views seat j w (Some n) at)
 
 of_none : (t : TableId) → Of t unnamed
 of_none t n e = absurd (cc)
@@ -45,9 +48,15 @@ forks seat v x views h at =
 
 pub merges : (seat : ℕ) (v : Option Name) (other : ℕ) (w : Option Name) → Merges Agrees seat v other w (informed v w) unnamed
 merges seat v other w x views h at apart there =
-    let was : get_elem? views other ≡ some w = ⊎_elim (λ (t : (other ≡ seat) × (w ≡ w)). absurd (apart t.0)) (λ (t : (other ≢ seat) × (get_elem? views other ≡ some w)). t.1) (at_set views seat other w w there) in
+    let was : get_elem? views other ≡ some w =
+    ⊎_elim (λ (t : (other ≡ seat) × (w ≡ w)). absurd (apart t.0)) (λ (t : (other ≢ seat) × (get_elem? views other ≡ some w)). t.1)
+    (at_set views seat other w w there) in
     let k = known x.gift.table_id views other w was h.each in
-    record { face = h.face; each = changed x.gift.table_id (set views seat w) other unnamed (of_none x.gift.table_id) (changed x.gift.table_id views seat w k h.each) }
+    record {
+      face = h.face;
+      each =
+          changed x.gift.table_id (set views seat w) other unnamed (of_none x.gift.table_id) (changed x.gift.table_id views seat w k h.each);
+    }
 
 pub sees : (seat : ℕ) (v : Option Name) → Turns Agrees seat v (λ x. x) Saw
 sees seat v x views h at =
@@ -60,7 +69,11 @@ sees seat v x views h at =
 pub names : (seat : ℕ) (v : Option Name) (x y : Face) → y.gift.table_id ≡ x.gift.table_id → (IsFace x → IsFace y) → TurnsAt Agrees seat v x y Named
 names seat v x y same face views h at = (
   named y.gift.table_id,
-  record { face = face h.face; each = changed y.gift.table_id views seat (named y.gift.table_id) (of_named y.gift.table_id) (λ j n there. h.each j n there ∙ sym same) },
+  record {
+    face = face h.face;
+    each =
+        changed y.gift.table_id views seat (named y.gift.table_id) (of_named y.gift.table_id) (λ j n there. h.each j n there ∙ sym same);
+  },
   refl,
 )
 
@@ -69,7 +82,10 @@ pub names_same : (seat : ℕ) (v : Option Name) (x next : Face) → next ≡ x �
 names_same seat v x next same = subst (λ (y : Face). TurnsAt Agrees seat v x y Named) (sym same) (names seat v x x refl (λ f. f))
 
 -- the same, where one vector is pending
-pub names_next : (seat : ℕ) (v : Option Name) (x next : Face) (s : Showing) → s.like.table_id ≡ x.gift.table_id → s.like.me.0.claim ≡ s.vector ∷ [] → s.like.me.0.stamp ≡ s.stamp → s.like.me.0.leads ≡ false
-    → next ≡ record x { shown = s.vector; stamp = s.stamp; gift = record { table_id = s.like.table_id; view = s.like.me.0 } } → TurnsAt Agrees seat v x next Named
+pub names_next : (seat : ℕ) (v : Option Name) (x next : Face) (s : Showing) → s.like.table_id ≡ x.gift.table_id → s.like.me.0.claim ≡ s.vector ∷ [] →
+    s.like.me.0.stamp ≡ s.stamp → s.like.me.0.leads ≡ false
+    → next ≡ record x { shown = s.vector; stamp = s.stamp; gift = record { table_id = s.like.table_id; view = s.like.me.0 } } →
+    TurnsAt Agrees seat v x next Named
 names_next seat v x next s table claim stamp leads same = subst (λ (y : Face). TurnsAt Agrees seat v x y Named) (sym same)
-    (names seat v x (record x { shown = s.vector; stamp = s.stamp; gift = record { table_id = s.like.table_id; view = s.like.me.0 } }) table (λ f. record { claim = claim; stamp = stamp; leads = leads }))
+    (names seat v x (record x { shown = s.vector; stamp = s.stamp; gift = record { table_id = s.like.table_id; view = s.like.me.0 } }) table
+    (λ f. record { claim = claim; stamp = stamp; leads = leads }))

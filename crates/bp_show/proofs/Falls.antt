@@ -13,7 +13,8 @@ use Rattle.bp_types.proofs.Suffixes.{price_from-past, price_from-falls}
 use Rattle.bp_show.specs.Vectors.{Vector, falls_of, FallTo}
 
 -- a vector is its number, its position and its prices
-pub same_vector : (n m p q : ℕ) (xs ys : List ℕ) → n ≡ m → p ≡ q → xs ≡ ys → Path Vector (record { number = n; position = p; prices = xs }) (record { number = m; position = q; prices = ys })
+pub same_vector : (n m p q : ℕ) (xs ys : List ℕ) → n ≡ m → p ≡ q → xs ≡ ys →
+    Path Vector (record { number = n; position = p; prices = xs }) (record { number = m; position = q; prices = ys })
 same_vector n m p q xs ys a b c = cc
 
 pub falls_length : (nights : ℕ) (sums : List ℕ) → length (falls_of nights sums) ≡ nights
@@ -27,7 +28,12 @@ pub fall_to : (prices sums : List ℕ) (nights : ℕ) → nights ≡ length pric
 fall_to prices sums nights many most are = record {
   most = most;
   last = are nights (omega (arith, many)) ∙ price_from-past prices nights (omega (arith, many));
-  falls = λ n within. omega (arith, are n (omega (arith, many, within)), are (n + 1) (omega (arith, many, within)), price_from-falls prices n (omega (arith, many, within)));
+  falls = λ n within. omega (
+    arith,
+    are n (omega (arith, many, within)),
+    are (n + 1) (omega (arith, many, within)),
+    price_from-falls prices n (omega (arith, many, within)),
+  );
 }
 
 -- and their falls are the prices
@@ -35,7 +41,13 @@ pub falls_are : (prices sums : List ℕ) (nights : ℕ) → nights ≡ length pr
 falls_are prices sums nights many are =
     ext_get_or 0 (falls_of nights sums) prices (falls_length nights sums ∙ many)
     (λ n h. let within : n < nights = omega (arith, h, falls_length nights sums) in
-    omega (arith, falls_at nights sums n within, are n (omega (arith, many, within)), are (n + 1) (omega (arith, many, within)), price_from-falls prices n (omega (arith, many, within))))
+    omega (
+      arith,
+      falls_at nights sums n within,
+      are n (omega (arith, many, within)),
+      are (n + 1) (omega (arith, many, within)),
+      price_from-falls prices n (omega (arith, many, within)),
+    ))
 
 suffixes : (nights : ℕ) (sums : List ℕ) → FallTo nights sums → AreSuffixSums (slice_index sums) (falls_of nights sums)
 suffixes nights sums fall = record {
@@ -44,7 +56,8 @@ suffixes nights sums fall = record {
 }
 
 -- the price of a span is the fall of the sums over it
-pub price_of_falls : (nights : ℕ) (sums : List ℕ) (span : Span) → FallTo nights sums → IsSpanWithin (length (falls_of nights sums)) span → price (falls_of nights sums) span + slice_index sums span.to ≡ slice_index sums span.from
+pub price_of_falls : (nights : ℕ) (sums : List ℕ) (span : Span) → FallTo nights sums → IsSpanWithin (length (falls_of nights sums)) span →
+    price (falls_of nights sums) span + slice_index sums span.to ≡ slice_index sums span.from
 price_of_falls nights sums span fall inside =
     let ordered = inside.0 in
     price_is_fall (slice_index sums) (falls_of nights sums) span (suffixes nights sums fall) (omega (arith, ordered)) inside.1

@@ -1,5 +1,30 @@
 -- The vectors of a history, by their numbers.
-use Rattle.std.proofs.Common.{◌≡◌, ℕ, zero, suc, ◌<◌, List, [], ◌∷◌, ◌++◌, length, take, drop, take-append-drop, slice_get, Option, Some, None, unwrap_or, refl, sym, ap, subst, ◌∙◌, arith}
+use Rattle.std.proofs.Common.{
+  ◌≡◌,
+  ℕ,
+  zero,
+  suc,
+  ◌<◌,
+  List,
+  [],
+  ◌∷◌,
+  ◌++◌,
+  length,
+  take,
+  drop,
+  take-append-drop,
+  slice_get,
+  Option,
+  Some,
+  None,
+  unwrap_or,
+  refl,
+  sym,
+  ap,
+  subst,
+  ◌∙◌,
+  arith,
+}
 use Rattle.std.specs.List.{cons_option}
 use Rattle.std.specs.Option.{option_map}
 use Rattle.std.proofs.lemmas.List.{length-take-le}
@@ -63,7 +88,8 @@ StandsIn H b = (i : ℕ) × (i < length H) × (posted (line_at H i) ≡ Some b)
 stands_later : (x : Line) (H : History) (b : Posted) → StandsIn H b → StandsIn (x ∷ H) b
 stands_later x H b (i, within, at) = (suc i, omega (arith, within), at)
 
-stands_first : (x : Line) (H : History) (b : Posted) (o : Option Posted) → posted x ≡ o → ((n : ℕ) → slice_get (boards H) n ≡ Some b → StandsIn H b) → (k : ℕ) → slice_get (cons_option o (boards H)) k ≡ Some b → StandsIn (x ∷ H) b
+stands_first : (x : Line) (H : History) (b : Posted) (o : Option Posted) → posted x ≡ o → ((n : ℕ) → slice_get (boards H) n ≡ Some b → StandsIn H b) →
+    (k : ℕ) → slice_get (cons_option o (boards H)) k ≡ Some b → StandsIn (x ∷ H) b
 stands_first x H b None none rest k is = stands_later x H b (rest k is)
 stands_first x H b (Some c) some rest zero is = (0, omega arith, some ∙ is)
 stands_first x H b (Some c) some rest (suc k) is = stands_later x H b (rest k is)
@@ -73,9 +99,11 @@ stands [] k b is = absurd (cc)
 stands (x ∷ H) k b is = stands_first x H b (posted x) refl (λ n at. stands H n b at) k is
 
 -- the board of a line that publishes
-posted_is : (position : ℕ) (certificate : Option Claim) (c : Claim) (b : Posted) → certificate ≡ Some c → option_map (λ (k : Claim). record { position = position; certificate = k }) certificate ≡ Some b → b ≡ record { position = position; certificate = c }
+posted_is : (position : ℕ) (certificate : Option Claim) (c : Claim) (b : Posted) → certificate ≡ Some c →
+    option_map (λ (k : Claim). record { position = position; certificate = k }) certificate ≡ Some b → b ≡ record { position = position; certificate = c }
 posted_is position certificate c b some is =
-    let e : Some (record { position = position; certificate = c }) ≡ Some b = ap (option_map (λ (k : Claim). record { position = position; certificate = k })) (sym some) ∙ is in cc
+    let e : Some (record { position = position; certificate = c }) ≡ Some b =
+    ap (option_map (λ (k : Claim). record { position = position; certificate = k })) (sym some) ∙ is in cc
 
 -- a board that stands in a legal history certifies
 board_certifies : CertificateIsOptimal → (h : Inn) (H : History) (b : Posted) → IsLegal h H → StandsIn H b → IsCertifiedIn h H (vector_on 0 b)
@@ -83,7 +111,9 @@ board_certifies optimal h H b legal (i, within, at) = by_act (line_at H i).entry
   where
     none : (line_at H i).certificate ≡ None → IsCertifiedIn h H (vector_on 0 b)
     none off =
-        let e : None ≡ Some b = ap (option_map (λ (k : Claim). record { position = unwrap_or (published_position (line_at H i).entry.act) 0; certificate = k })) (sym off) ∙ at in absurd (cc)
+        let e : None ≡ Some b = ap
+        (option_map (λ (k : Claim). record { position = unwrap_or (published_position (line_at H i).entry.act) 0; certificate = k })) (sym off) ∙ at in
+        absurd (cc)
 
     by_act : (a : Act) → (line_at H i).entry.act ≡ a → IsCertifiedIn h H (vector_on 0 b)
     by_act (Publish position) is =
@@ -91,7 +121,8 @@ board_certifies optimal h H b legal (i, within, at) = by_act (line_at H i).entry
         let line = legal.lines i within in
         let c = subst (λ (a : Act). IsCertified h G a (line_at H i).certificate) is line.certificate in
         let there : option_map (λ (k : Claim). record { position = position; certificate = k }) (line_at H i).certificate ≡ Some b =
-        ap (λ (a : Act). option_map (λ (k : Claim). record { position = unwrap_or (published_position a) 0; certificate = k }) (line_at H i).certificate) (sym is) ∙ at in
+        ap (λ (a : Act). option_map (λ (k : Claim). record { position = unwrap_or (published_position a) 0; certificate = k }) (line_at H i).certificate)
+        (sym is) ∙ at in
         let board : b ≡ record { position = position; certificate = c.0 } = posted_is position (line_at H i).certificate c.0 b c.1 there in
         let le = position_so_far h G (line_at H i) position line is in
         let size = length-take-le i H (omega (arith, within)) in
@@ -109,8 +140,10 @@ board_certifies optimal h H b legal (i, within, at) = by_act (line_at H i).entry
     by_act Leave is = none (subst (λ (a : Act). IsCertified h (take i H) a (line_at H i).certificate) is (legal.lines i within).certificate)
 
 certifies_as : (h : Inn) (H : History) (v : Vector) (b : Posted) → v ≡ vector_on v.number b → IsCertifiedIn h H (vector_on 0 b) → IsCertifiedIn h H v
-certifies_as h H v b is c = subst (IsCertifiedIn h H) (sym is) (record { claim = c.claim; prices = c.prices; so_far = c.so_far; certifies = c.certifies; optimum = c.optimum })
+certifies_as h H v b is c =
+    subst (IsCertifiedIn h H) (sym is) (record { claim = c.claim; prices = c.prices; so_far = c.so_far; certifies = c.certifies; optimum = c.optimum })
 
 pub vectors_certify : CertificateIsOptimal → VectorsCertify
 vectors_certify optimal h H shown legal are =
-    All-weaker (IsVectorIn H) (IsCertifiedIn h H) (λ v there. certifies_as h H v there.0 there.2 (board_certifies optimal h H there.0 legal (stands H v.number there.0 there.1))) shown are
+    All-weaker (IsVectorIn H) (IsCertifiedIn h H)
+    (λ v there. certifies_as h H v there.0 there.2 (board_certifies optimal h H there.0 legal (stands H v.number there.0 there.1))) shown are

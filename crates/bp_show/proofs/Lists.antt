@@ -32,7 +32,8 @@ last_end d (x ∷ xs) v = last_end x xs v
 ends_last : (d : Vector) (xs : List Vector) (v : Vector) → EndsIn xs v → last_of d xs ≡ v
 ends_last d xs v (before, e) = ap (last_of d) e ∙ last_end d before v
 
-push_from : (u : Vector) (xs : List Vector) (w : Vector) → RisesFrom u xs → (last_of u xs).number < w.number → length w.prices ≡ length (last_of u xs).prices → RisesFrom u (xs ++ w ∷ [])
+push_from : (u : Vector) (xs : List Vector) (w : Vector) → RisesFrom u xs → (last_of u xs).number < w.number →
+    length w.prices ≡ length (last_of u xs).prices → RisesFrom u (xs ++ w ∷ [])
 push_from u [] w r newer same = (newer, same, tt)
 push_from u (x ∷ xs) w r newer same = (r.0, r.1, push_from x xs w r.2 newer same)
 
@@ -48,7 +49,8 @@ last_nights u [] r = refl
 last_nights u (x ∷ xs) r = last_nights x xs r.2 ∙ r.1
 
 -- the last vector of a list has as many nights as that of a first part
-pub same_nights : (part whole : List Vector) (v w : Vector) → Rises part → Rises whole → IsPrefix part whole → EndsIn part v → EndsIn whole w → length w.prices ≡ length v.prices
+pub same_nights : (part whole : List Vector) (v w : Vector) → Rises part → Rises whole → IsPrefix part whole → EndsIn part v → EndsIn whole w →
+    length w.prices ≡ length v.prices
 same_nights [] whole v w r s begins ([], e) ends = absurd (cc)
 same_nights [] whole v w r s begins (b ∷ bs, e) ends = absurd (cc)
 same_nights (x ∷ xs) whole v w r s (rest, is) here ends =
@@ -56,4 +58,5 @@ same_nights (x ∷ xs) whole v w r s (rest, is) here ends =
     let there : EndsIn (x ∷ xs ++ rest) w = subst (λ (l : List Vector). EndsIn l w) is ends in
     let last_v = ends_last x (x ∷ xs) v here in
     let last_w = ends_last x (x ∷ xs ++ rest) w there in
-    ap (λ (u : Vector). length u.prices) (sym last_w) ∙ last_nights x (xs ++ rest) rises ∙ sym (last_nights x xs r) ∙ ap (λ (u : Vector). length u.prices) last_v
+    ap (λ (u : Vector). length u.prices) (sym last_w) ∙ last_nights x (xs ++ rest) rises ∙ sym (last_nights x xs r) ∙
+    ap (λ (u : Vector). length u.prices) last_v

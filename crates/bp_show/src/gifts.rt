@@ -1,4 +1,5 @@
 ghost use Rattle.std.specs.Prelude.{◌≡◌, ◌<◌, [], IfSome};
+ghost use Rattle.bp_types.specs.declared.limits.TheConstants.{MOST_VIEWS};
 
 use crate::order::{Place, Sight};
 use crate::sums::Sums;
@@ -56,7 +57,7 @@ impl Gifts {
 
     /// Takes the seat that rests on a perch, if one does.
     pub(crate) fn take(&self, index: usize) -> Option<Place>
-        requires { index < 16 }
+        requires { index < MOST_VIEWS }
         ensures { IfSome result (λ s. (s.table_id ≡ self.now.table_id) × (s.me ≡ (self.now.view, []))) }
     {
         if index == 0 {
@@ -68,7 +69,7 @@ impl Gifts {
 
     /// Lets the seat rest on a perch, if none does.
     pub(crate) fn give(&self, index: usize, seat: Place)
-        requires index { index < 16 }
+        requires index { index < MOST_VIEWS }
         requires seat { (seat.table_id ≡ self.now.table_id) × (seat.me ≡ (self.now.view, [])) }
     {
         let _ = if index == 0 {

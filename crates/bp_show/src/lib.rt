@@ -2,6 +2,16 @@
 //! waiting, taking a turn or taking memory.
 //!
 //! Nights are numbered from 0, and money is in minor units.
+//!
+//! A session books, publishes the prices for the history since, and has them shown; `docs/displays.md` shows
+//! the whole program.
+//!
+//! ```
+//! desk.book(rt, session, TRADE_FAIR)?;
+//! let position = desk.lag(rt, session).length;
+//! desk.submit(rt, alloc, session, start, position, later)?;
+//! Ok(screen.follow(session)?)
+//! ```
 #![tactic(auto)]
 
 mod face;

@@ -1,6 +1,19 @@
 //! The rule of the list shown, in a table of one word and no slot, and what each step tells. The list itself is in
 //! proofs alone: no value of it is made.
-ghost use Rattle.bp_show.specs.Order.{Keeps, first_sight, Prepared, Committed, Adopted, Settled, note, gift, heard, told_by, took, spent};
+ghost use Rattle.bp_show.specs.Order.{
+  Keeps,
+  first_sight,
+  Prepared,
+  Committed,
+  Adopted,
+  Settled,
+  note,
+  gift,
+  heard,
+  told_by,
+  took,
+  spent,
+};
 
 use crate::sums::Sums;
 use atomic_table::{Join, Play, Seat, Split, Table, TableRule};

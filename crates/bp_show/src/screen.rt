@@ -42,8 +42,8 @@ impl<'a, R: Wait> Model for Screen<'a, R> {
 }
 
 impl<'a, R: Wait> Screen<'a, R> {
-    /// A screen that shows the vector on a board under a number, and its views, 1 to 16. All room is taken here, and it
-    /// waits for nobody.
+    /// A screen that shows the vector on a board under a number, and its views, 1 to `MOST_VIEWS`. All room is taken
+    /// here, and it waits for nobody.
     pub fn new(
         rt: &'a R,
         alloc: Global,

@@ -17,7 +17,8 @@ use std::marker::Model;
 use std::snapshot::Snapshot;
 use std::sync::{Arc, Wait};
 
-/// What views look at, with the list of vectors that it has shown. It may end only where nobody reads it, so who ends it
+/// What views look at, with the list of vectors that it has shown. It may end only where nobody reads it, so who ends
+/// it
 /// has to be able to wait.
 ///
 /// Contracts see the list.
@@ -159,7 +160,7 @@ impl Stage {
 
     /// Another view, which has seen all that was shown.
     fn view(&mut self, index: usize) -> Result<View, AllocError>
-        requires { index < 16 }
+        requires { index < MOST_VIEWS }
         ensures stage { self.new ≡ self.old }
         ensures view { IfOk result (λ v. v ≡ self.old) }
     {

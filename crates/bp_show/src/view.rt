@@ -1,6 +1,7 @@
 ghost use Rattle.std.specs.Prelude.{◌≡◌, ◌<◌, false, [], ◌∷◌, IfSome};
 ghost use Rattle.std.specs.Arc.{arc_value};
 ghost use Rattle.left_right.specs.Sides.{view};
+ghost use Rattle.bp_types.specs.declared.limits.TheConstants.{MOST_VIEWS};
 ghost use Rattle.bp_types.specs.Spans.{IsSpanWithin};
 ghost use Rattle.bp_show.specs.Answers.{Answers};
 ghost use Rattle.bp_show.specs.Naming.{named};
@@ -47,6 +48,7 @@ pub struct View {
 impl Model for View {
     ghost use Rattle.std.specs.Prelude.{◌≡◌, ◌<◌, false, [], length};
     ghost use Rattle.std.specs.Arc.{arc_value};
+    ghost use Rattle.bp_types.specs.declared.limits.TheConstants.{MOST_VIEWS};
     ghost use Rattle.bp_show.specs.Naming.{named};
     ghost use Rattle.bp_show.specs.Shown.{EndsIn, Rises};
     ghost use Rattle.bp_show.specs.Screens.{Display, name_at};
@@ -62,7 +64,7 @@ impl Model for View {
         × (s.place.table_id.words ≡ 1)
         × (s.place.me.1 ≡ [])
         × (s.place.me.0.leads ≡ false)
-        × (s.index < 16) };
+        × (s.index < MOST_VIEWS) };
 }
 
 /// A vector that is shown, the try that showed it, and a seat that knows of the try.
@@ -89,10 +91,12 @@ fn shows_newer(reader: FaceReader, last: u64) -> (FaceReader, bool)
 /// Takes the vector that is shown, where a seat that knows of its try rests on this perch.
 fn take_newest(reader: FaceReader, with: (&Arc<Chronicle>, usize)) -> (FaceReader, Option<Found>)
     requires table { view reader.place ≡ named (arc_value with.0.now).shared.table_id }
-    requires index { with.1 < 16 }
+    requires index { with.1 < MOST_VIEWS }
     requires words { (arc_value with.0.now).shared.table_id.words ≡ 1 }
     ensures reader { view result.0.place ≡ view reader.place }
-    ensures found { IfSome result.1 (λ n. (n.seat.table_id ≡ (arc_value with.entry.0.now).shared.table_id) × (n.seat.me.1 ≡ []) × (n.seat.me.0.leads ≡ false) × (n.seat.me.0.claim ≡ n.vector ∷ []) × (n.seat.me.0.stamp ≡ n.stamp)) }
+    ensures found { IfSome result.1 (λ n. (n.seat.table_id ≡ (arc_value with.entry.0.now).shared.table_id) ×
+        (n.seat.me.1 ≡ []) × (n.seat.me.0.leads ≡ false) × (n.seat.me.0.claim ≡ n.vector ∷ []) ×
+        (n.seat.me.0.stamp ≡ n.stamp)) }
 {
     let (chronicle, index) = with;
     match reader.enter_as::<Sees>() {

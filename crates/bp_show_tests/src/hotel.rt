@@ -65,7 +65,14 @@ pub(crate) const LIMITS: Limits = Limits {
 
 /// The house of these numbers.
 pub(crate) fn house(alloc: Global, numbers: Numbers<'_>, limits: Limits) -> Result<House, Fail>
-    ensures { IfOk result (λ h. h ≡ record { rooms = numbers.entry.0.now; sold = numbers.entry.1.now; stays = numbers.entry.2.now; limits = limits }) }
+    ensures { IfOk result (λ h. h ≡
+        record {
+          rooms = numbers.entry.0.now;
+          sold = numbers.entry.1.now;
+          stays = numbers.entry.2.now;
+          limits =
+              limits;
+        }) }
 {
     let rooms = Vec::from_slice(alloc, numbers.0)?;
     let sold = Vec::from_slice(alloc, numbers.1)?;

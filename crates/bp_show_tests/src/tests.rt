@@ -82,7 +82,8 @@ fn never_falls(view: &mut View, looks: u32) -> bool {
     true
 }
 
-// No clause says that a look finds what was shown last, so a look that answers only what the last `meet` gave is refused
+// No clause says that a look finds what was shown last, so a look that answers only what the last `meet` gave is
+// refused
 // here alone.
 #[test]
 fn two_views_that_look(rt: HostRuntime) -> Result<(), Fail> {

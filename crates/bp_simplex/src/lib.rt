@@ -10,6 +10,13 @@
 //! as in the LEMON library. Time: a pivot looks at a block of half the root of the arcs and walks the piece of the
 //! tree that it moves; there are a few pivots for each arc where stays are as they come, and so many at most as
 //! `PIVOTS` says.
+//!
+//! How the solver asks for a guess.
+//!
+//! ```
+//! let mut simplex = Simplex::new(alloc, instance)?;
+//! simplex.run();
+//! ```
 #![tactic(auto)]
 
 mod arcs;

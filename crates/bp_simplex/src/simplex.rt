@@ -207,9 +207,9 @@ impl Simplex {
         }
     }
 
-    /// Lets each stay enter once, by falling rate a night.
-    fn enter_all(&mut self) {
-        for place in 0..self.stays as usize {
+    /// Lets so many stays enter once at most, by falling rate a night.
+    fn enter_first(&mut self, stays: usize) {
+        for place in 0..stays {
             if place < self.order.len() {
                 let number = self.order[place];
                 self.enter(number);
@@ -238,13 +238,20 @@ impl Simplex {
         None
     }
 
-    /// Pivots until no arc violates optimality, or too often.
+    /// Lets each stay enter once, and pivots then until no arc violates optimality, or too often.
     pub fn run(&mut self) {
-        self.enter_all();
-        let count = self.arcs.len();
-        let size = block_size(count);
+        let pivots = self.arcs.len().saturating_mul(PIVOTS);
+        self.run_for(pivots);
+    }
+
+    /// The same, with so many pivots at most, of which each stay that enters first counts as one. Where they do not
+    /// suffice, it stands where it stands: another call begins with the stays anew.
+    pub fn run_for(&mut self, pivots: usize) {
+        let entering = pivots.min(self.stays as usize);
+        self.enter_first(entering);
+        let size = block_size(self.arcs.len());
         let mut start = 0;
-        for _ in 0..count.saturating_mul(PIVOTS) {
+        for _ in entering..pivots {
             let Some(place) = self.next(start, size) else {
                 return;
             };

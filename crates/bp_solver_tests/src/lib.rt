@@ -12,4 +12,8 @@ mod paths;
 #[cfg(test)]
 mod residual;
 #[cfg(test)]
+mod small;
+#[cfg(test)]
+mod starts;
+#[cfg(test)]
 mod warm;

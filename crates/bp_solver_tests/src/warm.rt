@@ -17,7 +17,9 @@ use std::test::Fail;
 
 fn night_takes(instance: &Instance, night: u32, up: bool, units: u64) -> bool
     requires { night < length instance.now.rooms }
-    ensures { IsTrue result → MatchBool up (slice_index instance.now.rooms night + units ≤ MOST_UNITS) (units ≤ slice_index instance.now.rooms night) }
+    ensures { IsTrue result →
+        MatchBool up (slice_index instance.now.rooms night + units ≤ MOST_UNITS)
+        (units ≤ slice_index instance.now.rooms night) }
 {
     let rooms = instance.rooms(night);
     if up {

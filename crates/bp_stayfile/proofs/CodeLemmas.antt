@@ -1,5 +1,37 @@
 -- The codes of a set of texts.
-use Rattle.std.proofs.Common.{◌≡◌, ◌∙◌, sym, ap, refl, ℕ, suc, ◌+◌, ◌<◌, ◌-◌, Bool, false, not, List, [], ◌∷◌, ◌++◌, map, length, get_or, take, Some, None, String, Global, string_bytes, arith, inl, inr, length-append, nat_lt}
+use Rattle.std.proofs.Common.{
+  ◌≡◌,
+  ◌∙◌,
+  sym,
+  ap,
+  refl,
+  ℕ,
+  suc,
+  ◌+◌,
+  ◌<◌,
+  ◌-◌,
+  Bool,
+  false,
+  not,
+  List,
+  [],
+  ◌∷◌,
+  ◌++◌,
+  map,
+  length,
+  get_or,
+  take,
+  Some,
+  None,
+  String,
+  Global,
+  string_bytes,
+  arith,
+  inl,
+  inr,
+  length-append,
+  nat_lt,
+}
 use Rattle.std.specs.List.{All, list_any, prefix_len, position, position_or_len}
 use Rattle.std.specs.Str.{bytes_eq}
 use Rattle.std.proofs.lemmas.Bool.{cases_Bool, cases_eq, ltb-true, ltb-false, le-ltb}
@@ -21,7 +53,8 @@ position-map p f xs = rw (prefix_len-map (λ y. not (p y)) f xs, length-map xs f
 pub position-within : {X : Type 0} (p : X → Bool) (xs : List X) (i : ℕ) → position p xs ≡ Some i → i < length xs
 position-within p xs i e =
     elim (cases_Bool (nat_lt (position_or_len p xs) (length xs))) [
-      | inl below ↦ let same : Some (position_or_len p xs) ≡ Some i = rw below at e in let is : position_or_len p xs ≡ i = (cc) in omega (arith, ltb-true _ _ below, is)
+      | inl below ↦ let same : Some (position_or_len p xs) ≡ Some i = rw below at e in let is : position_or_len p xs ≡ i = (cc) in
+          omega (arith, ltb-true _ _ below, is)
       | inr past ↦ absurd (let no_place : None ≡ Some i = rw past at e in (cc))
     ]
 
@@ -58,12 +91,15 @@ list_any-map p f [] = refl
 list_any-map p f (x ∷ xs) = rw (list_any-map p f xs)
 
 -- a code that no stay has is not in the set
-pub not_there : (code : List ℕ) (keys : List (String Global)) → stay_with (map string_bytes keys) code ≡ None → list_any (λ k. bytes_eq code (string_bytes k)) keys ≡ false
+pub not_there : (code : List ℕ) (keys : List (String Global)) → stay_with (map string_bytes keys) code ≡ None →
+    list_any (λ k. bytes_eq code (string_bytes k)) keys ≡ false
 not_there code keys none =
-    sym (list_any-map (bytes_eq code) string_bytes keys) ∙ none_any (bytes_eq code) (map string_bytes keys) (none_passes (bytes_eq code) (map string_bytes keys) none)
+    sym (list_any-map (bytes_eq code) string_bytes keys) ∙
+    none_any (bytes_eq code) (map string_bytes keys) (none_passes (bytes_eq code) (map string_bytes keys) none)
 
 -- one code more
-pub IsCodes-more : (codes : List (List ℕ)) (code : List ℕ) → IsCodes codes → length codes < MOST_STAYS → stay_with codes code ≡ None → IsCodes (codes ++ code ∷ [])
+pub IsCodes-more : (codes : List (List ℕ)) (code : List ℕ) → IsCodes codes → length codes < MOST_STAYS → stay_with codes code ≡ None →
+    IsCodes (codes ++ code ∷ [])
 IsCodes-more codes code h room none =
     record {
       few = omega (arith, length-append codes (code ∷ []));
@@ -75,7 +111,8 @@ IsCodes-more codes code h room none =
         let earlier = get_or-append codes (code ∷ []) [] i (omega arith) in
         elim (cases_eq j (length codes)) [
           | inl last ↦
-              let here : get_or (codes ++ code ∷ []) j [] ≡ code = get_or-append_right codes (code ∷ []) (length codes) j [] refl (omega arith) ∙ ap (λ k. get_or (code ∷ []) k []) (let z : j - length codes ≡ 0 = omega arith in z) in
+              let here : get_or (codes ++ code ∷ []) j [] ≡ code = get_or-append_right codes (code ∷ []) (length codes) j [] refl (omega arith) ∙
+              ap (λ k. get_or (code ∷ []) k []) (let z : j - length codes ≡ 0 = omega arith in z) in
               rw (here, earlier) (none_passes (bytes_eq code) codes none i [] (omega arith))
           | inr other ↦ rw (get_or-append codes (code ∷ []) [] j (omega arith), earlier) (h.distinct i j before (omega arith))
         ]

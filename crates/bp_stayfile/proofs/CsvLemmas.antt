@@ -1,5 +1,33 @@
 -- What a reader of `csv` still gives, record by record.
-use Rattle.std.proofs.Common.{◌≡◌, ◌∙◌, sym, ap, refl, ℕ, zero, suc, ◌+◌, ◌<◌, ◌≤◌, Bool, true, false, cond, ◌==◌, ◌||◌, List, [], ◌∷◌, length, Option, Some, None, arith, inl, inr}
+use Rattle.std.proofs.Common.{
+  ◌≡◌,
+  ◌∙◌,
+  sym,
+  ap,
+  refl,
+  ℕ,
+  zero,
+  suc,
+  ◌+◌,
+  ◌<◌,
+  ◌≤◌,
+  Bool,
+  true,
+  false,
+  cond,
+  ◌==◌,
+  ◌||◌,
+  List,
+  [],
+  ◌∷◌,
+  length,
+  Option,
+  Some,
+  None,
+  arith,
+  inl,
+  inr,
+}
 use Rattle.std.proofs.lemmas.Bool.{cases_Bool, false≢true}
 use Rattle.csv.specs.declared.parser.State.{State}
 use Rattle.csv.specs.declared.parser.State.TheVariants as st
@@ -91,7 +119,8 @@ next_record-goes s fields field c (d ∷ rest) p e =
     elim (cases_Bool (is_end (step default_config s c).1)) [
       | inl ends ↦ goes_now s fields field c (d ∷ rest) p ends e
       | inr more ↦
-          let h = next_record-goes (step default_config s c).0 (fields_after (step default_config s c).1 fields field) (field_after (step default_config s c).1 c field) d rest p (rw more at e) in
+          let h = next_record-goes (step default_config s c).0 (fields_after (step default_config s c).1 fields field)
+          (field_after (step default_config s c).1 c field) d rest p (rw more at e) in
           record { shorter = omega (arith, h.shorter); clean = h.clean }
     ]
 
@@ -100,20 +129,26 @@ unfolding next_record
 nothing_left s p clean e = let no : None ≡ Some p = rw clean at e in (cc)
 
 -- with turns for every byte, more turns read no more
-same_turns : (n m : ℕ) (s : State) (xs : List ℕ) → ends_at_end s ≡ false → length xs < n → length xs < m → records_from default_config n s xs ≡ records_from default_config m s xs
+same_turns : (n m : ℕ) (s : State) (xs : List ℕ) → ends_at_end s ≡ false → length xs < n → length xs < m →
+    records_from default_config n s xs ≡ records_from default_config m s xs
 unfolding records_from
 same_turns zero m s xs clean more room = absurd (omega arith)
 same_turns (suc n) zero s xs clean more room = absurd (omega arith)
 same_turns (suc n) (suc m) s [] clean more room = by_next (next_record default_config s [] [] []) refl
   where
-    by_next : (o : Option Read) → next_record default_config s [] [] [] ≡ o → records_next (records_from default_config n) (next_record default_config s [] [] []) ≡ records_next (records_from default_config m) (next_record default_config s [] [] [])
+    by_next : (o : Option Read) → next_record default_config s [] [] [] ≡ o →
+        records_next (records_from default_config n) (next_record default_config s [] [] []) ≡
+        records_next (records_from default_config m) (next_record default_config s [] [] [])
     by_next None e = rw e refl
     by_next (Some p) e = absurd (nothing_left s p clean e)
 same_turns (suc n) (suc m) s (c ∷ xs) clean more room =
-    by_next (λ p e. let g = next_record-goes s [] [] c xs p e in same_turns n m p.1 p.2 g.clean (omega (arith, g.shorter, more)) (omega (arith, g.shorter, room))) (next_record default_config s [] [] (c ∷ xs)) refl
+    by_next (λ p e. let g = next_record-goes s [] [] c xs p e in
+    same_turns n m p.1 p.2 g.clean (omega (arith, g.shorter, more)) (omega (arith, g.shorter, room))) (next_record default_config s [] [] (c ∷ xs)) refl
   where
-    by_next : ((p : Read) → next_record default_config s [] [] (c ∷ xs) ≡ Some p → records_from default_config n p.1 p.2 ≡ records_from default_config m p.1 p.2) → (o : Option Read) → next_record default_config s [] [] (c ∷ xs) ≡ o →
-        records_next (records_from default_config n) (next_record default_config s [] [] (c ∷ xs)) ≡ records_next (records_from default_config m) (next_record default_config s [] [] (c ∷ xs))
+    by_next : ((p : Read) → next_record default_config s [] [] (c ∷ xs) ≡ Some p →
+        records_from default_config n p.1 p.2 ≡ records_from default_config m p.1 p.2) → (o : Option Read) → next_record default_config s [] [] (c ∷ xs) ≡ o →
+        records_next (records_from default_config n) (next_record default_config s [] [] (c ∷ xs)) ≡
+        records_next (records_from default_config m) (next_record default_config s [] [] (c ∷ xs))
     by_next again None e = rw e refl
     by_next again (Some p) e = rw e (ap (λ rs. p.0 ∷ rs) (again p e))
 
@@ -123,7 +158,8 @@ unfolding records_from
 records_few zero s xs = omega arith
 records_few (suc n) s xs = by_next (λ p. records_few n p.1 p.2) (next_record default_config s [] [] xs)
   where
-    by_next : ((p : Read) → length (records_from default_config n p.1 p.2) ≤ n) → (o : Option Read) → length (records_next (records_from default_config n) o) ≤ suc n
+    by_next : ((p : Read) → length (records_from default_config n p.1 p.2) ≤ n) → (o : Option Read) →
+        length (records_next (records_from default_config n) o) ≤ suc n
     by_next few None = omega arith
     by_next few (Some p) = omega (arith, few p)
 
@@ -140,7 +176,8 @@ strip-le (a ∷ b ∷ c ∷ rest) = by_bom (is_bom a b c)
     by_bom false = omega arith
 
 -- the records of bytes whose first record is read
-one_read : (n : ℕ) (s : State) (xs : List ℕ) (p : Read) → next_record default_config s [] [] xs ≡ Some p → records_from default_config (suc n) s xs ≡ p.0 ∷ records_from default_config n p.1 p.2
+one_read : (n : ℕ) (s : State) (xs : List ℕ) (p : Read) → next_record default_config s [] [] xs ≡ Some p →
+    records_from default_config (suc n) s xs ≡ p.0 ∷ records_from default_config n p.1 p.2
 unfolding records_from
 one_read n s xs p e = ap (records_next (records_from default_config n)) e
 
@@ -157,10 +194,12 @@ behind_one : (s : State) (xs : List ℕ) (p : Read) → ends_at_end s ≡ false 
 behind_one s xs p clean e =
     let g = goes_of s xs p clean e in
     let turns : length xs + 1 ≡ suc (length xs) = omega arith in
-    ap (λ n. records_from default_config n s xs) turns ∙ one_read (length xs) s xs p e ∙ ap (λ rs. p.0 ∷ rs) (same_turns (length xs) (length p.2 + 1) p.1 p.2 g.clean g.shorter (omega arith))
+    ap (λ n. records_from default_config n s xs) turns ∙ one_read (length xs) s xs p e ∙
+    ap (λ rs. p.0 ∷ rs) (same_turns (length xs) (length p.2 + 1) p.1 p.2 g.clean g.shorter (omega arith))
 
 -- what a record reached one step on says of the step
-one_step : (s s2 : State) (xs ys : List ℕ) (f : Record) → Reached default_config s xs (f ∷ []) s2 ys → (p : Read) × (next_record default_config s [] [] xs ≡ Some p) × (f ≡ p.0) × (p.1 ≡ s2) × (p.2 ≡ ys)
+one_step : (s s2 : State) (xs ys : List ℕ) (f : Record) → Reached default_config s xs (f ∷ []) s2 ys →
+    (p : Read) × (next_record default_config s [] [] xs ≡ Some p) × (f ≡ p.0) × (p.1 ≡ s2) × (p.2 ≡ ys)
 unfolding Reached
 one_step s s2 xs ys f h = (h.0, h.1, h.2, h.3.0, h.3.1)
 
@@ -169,7 +208,8 @@ unfolding Reached
 here s xs = (refl, refl)
 
 -- a record that is read is the first of those that were left
-pub one_less : (a b : Reader (Bor (List ℕ))) (f : Record) → IsReading a → Ready b → b.flexible ≡ a.flexible → ReadRecord (λ s. Some s.now) a b true f → IsReading b × (records_left a ≡ f ∷ records_left b)
+pub one_less : (a b : Reader (Bor (List ℕ))) (f : Record) → IsReading a → Ready b → b.flexible ≡ a.flexible → ReadRecord (λ s. Some s.now) a b true f →
+    IsReading b × (records_left a ≡ f ∷ records_left b)
 one_less a b f is ready flexible read =
     let more = rows-more (λ (s : Bor (List ℕ)). Some s.now) a b f default_config a.state is.bytes is.bytes [] is.config is.known (here a.state is.bytes) read in
     let step = one_step a.state b.state is.bytes more.0 f more.2 in

@@ -18,12 +18,18 @@ use Rattle.bp_stayfile.specs.Counts.{counts_file}
 use Rattle.bp_stayfile.specs.Bookings.{sold_on, sold_by_night, sold_of, unless_overbooked, bookings_file, AreSold}
 use Rattle.bp_stayfile.proofs.CodeLemmas.{none_found}
 
-fit_unless : (rooms sold : List ℕ) (night : Option ℕ) (x : List ℕ) → find (is_oversold rooms sold) (range_with_len 0 (length rooms)) ≡ night → length sold ≡ length rooms →
+fit_unless : (rooms sold : List ℕ) (night : Option ℕ) (x : List ℕ) → find (is_oversold rooms sold) (range_with_len 0 (length rooms)) ≡ night →
+    length sold ≡ length rooms →
     unless_overbooked night sold ≡ Ok x → AreSold rooms x
 fit_unless rooms sold None x found one_each e =
     let same : sold ≡ x = (cc) in
     subst (AreSold rooms) same
-    (record { one_each = one_each; fit = λ n below. ltb-false (get_or rooms n 0) (get_or sold n 0) (none_passes (is_oversold rooms sold) 0 (length rooms) found n (omega arith) (omega (arith, below))) })
+    (record {
+      one_each = one_each;
+      fit =
+          λ n below. ltb-false (get_or rooms n 0) (get_or sold n 0)
+          (none_passes (is_oversold rooms sold) 0 (length rooms) found n (omega arith) (omega (arith, below)));
+    })
 fit_unless rooms sold (Some night) x found one_each e = absurd (cc)
 
 -- the rooms that a bookings file takes are there
@@ -45,7 +51,8 @@ unless_house_none : (b : Bool) (e : HouseError) → b ≡ true → unless_house 
 unless_house_none b e passed = rw passed refl
 
 -- rooms and stays that keep to their limits make an instance
-program_fits : (rooms : List ℕ) (stays : List Stay) → 1 ≤ length rooms → length rooms ≤ MOST_NIGHTS → All (λ r. r ≤ MOST_ROOMS) rooms → AreStays (length rooms) stays → refusal_above MOST_ROOMS rooms stays ≡ None
+program_fits : (rooms : List ℕ) (stays : List Stay) → 1 ≤ length rooms → length rooms ≤ MOST_NIGHTS → All (λ r. r ≤ MOST_ROOMS) rooms →
+    AreStays (length rooms) stays → refusal_above MOST_ROOMS rooms stays ≡ None
 program_fits rooms stays some few small are =
     none_or _ _ (unless_none _ _ (le-leb _ _ some))
     (none_or _ _ (unless_none _ _ (le-leb _ _ few))
@@ -55,12 +62,14 @@ program_fits rooms stays some few small are =
     (none_or _ _ (none_of _ _ (none_found _ stays (λ k d h. rw (le-leb _ _ (are.rates k d h).0, le-leb _ _ (are.rates k d h).1) refl)))
     (none_of _ _ (none_found _ stays (λ k d h. le-ltb _ _ (are.forecasts k d h)))))))))
 
-pub house_fits : (season : Season) (stays : List Stay) (sold : List ℕ) → IsSeason season → AreStays (length season.rooms) stays → AreSold season.rooms sold → house_refusal season.rooms sold stays season.limits ≡ None
+pub house_fits : (season : Season) (stays : List Stay) (sold : List ℕ) → IsSeason season → AreStays (length season.rooms) stays → AreSold season.rooms sold →
+    house_refusal season.rooms sold stays season.limits ≡ None
 house_fits season stays sold is are fit =
     none_or _ _ (none_of _ _ (program_fits season.rooms stays is.some_night is.nights is.rooms are))
     (none_or _ _
     (none_or _ _ (unless_house_none _ _ (eq-eqb _ _ fit.one_each))
-    (none_of _ _ (find-range_none (is_oversold season.rooms sold) 0 (length season.rooms) (λ k above below. le-ltb (get_or season.rooms k 0) (get_or sold k 0) (fit.fit k (omega (arith, below)))))))
+    (none_of _ _ (find-range_none (is_oversold season.rooms sold) 0 (length season.rooms)
+    (λ k above below. le-ltb (get_or season.rooms k 0) (get_or sold k 0) (fit.fit k (omega (arith, below)))))))
     (none_or _ _ (unless_house_none _ _ is.stale_after)
     (none_or _ _ (unless_house_none _ _ is.entries)
     (none_or _ _ (unless_house_none _ _ is.publications) (unless_house_none _ _ is.unit)))))

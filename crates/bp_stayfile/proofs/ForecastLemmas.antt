@@ -1,5 +1,38 @@
 -- What a forecast file sets, whole or up to its refusal.
-use Rattle.std.proofs.Common.{◌≡◌, ◌∙◌, sym, ap, refl, subst, ℕ, zero, suc, ◌+◌, ◌<◌, ◌≤◌, Bool, true, false, cond, eqb, List, [], ◌∷◌, ◌++◌, map, length, get_or, All, Option, Some, None, Result, Ok, Err, arith}
+use Rattle.std.proofs.Common.{
+  ◌≡◌,
+  ◌∙◌,
+  sym,
+  ap,
+  refl,
+  subst,
+  ℕ,
+  zero,
+  suc,
+  ◌+◌,
+  ◌<◌,
+  ◌≤◌,
+  Bool,
+  true,
+  false,
+  cond,
+  eqb,
+  List,
+  [],
+  ◌∷◌,
+  ◌++◌,
+  map,
+  length,
+  get_or,
+  All,
+  Option,
+  Some,
+  None,
+  Result,
+  Ok,
+  Err,
+  arith,
+}
 use Rattle.std.specs.Prelude.{IfOk, IfErr, MatchOption}
 use Rattle.std.specs.List.{range_with_len}
 use Rattle.std.proofs.lemmas.List.Elements.{All-push}
@@ -23,13 +56,15 @@ use Rattle.bp_stayfile.proofs.ReadLemmas.{refused_after-table}
 use Rattle.bp_stayfile.proofs.CountLemmas.{counted_in-tells, forecasts-laid_out, forecasts_set-AreStays, length-forecasts_set}
 
 -- counts that are laid out, put at their stays
-pub laid_out-set : (list : StayList) (named : List Counted) (places : List (Option ℕ)) (new : List Stay) → IsStayList list → AreLaidOut (length list.codes) named places
+pub laid_out-set : (list : StayList) (named : List Counted) (places : List (Option ℕ)) (new : List Stay) → IsStayList list →
+    AreLaidOut (length list.codes) named places
     → new ≡ map (λ j. forecast_by (get_or places j None) (get_or list.stays j no_stay)) (range_with_len 0 (length list.stays))
     → new ≡ forecasts_set named list.stays
 laid_out-set list named places new is laid_out set = set ∙ forecasts-laid_out named places list.stays (rw is.one_each at laid_out)
 
 -- stays with their forecasts keep to their limits
-with_forecasts-small : (list : StayList) (named : List Counted) → IsStayList list → ((j c : ℕ) → j < length list.stays → count_of named j ≡ Some c → c ≤ MOST_FORECAST) → IsStayList (with_forecasts list named)
+with_forecasts-small : (list : StayList) (named : List Counted) → IsStayList list →
+    ((j c : ℕ) → j < length list.stays → count_of named j ≡ Some c → c ≤ MOST_FORECAST) → IsStayList (with_forecasts list named)
 with_forecasts-small list named is small =
     record {
       codes = is.codes;
@@ -37,25 +72,30 @@ with_forecasts-small list named is small =
       stays = forecasts_set-AreStays list.nights named list.stays small is.stays;
     }
 
-pub with_forecasts-IsStayList : (list : StayList) (named : List Counted) (places : List (Option ℕ)) → IsStayList list → AreLaidOut (length list.codes) named places → IsStayList (with_forecasts list named)
+pub with_forecasts-IsStayList : (list : StayList) (named : List Counted) (places : List (Option ℕ)) → IsStayList list →
+    AreLaidOut (length list.codes) named places → IsStayList (with_forecasts list named)
 with_forecasts-IsStayList list named places is laid_out =
     with_forecasts-small list named is (λ j c below e. laid_out.small j c (laid_out.each j (omega (arith, below, is.one_each)) ∙ e))
 
-of_file : (list : StayList) (bytes : List ℕ) (table : Table) (answer : Result (List Counted) TableRefusal) → table_of count_columns bytes ≡ Ok table → table_read (count_rule list.codes) table ≡ answer →
+of_file : (list : StayList) (bytes : List ℕ) (table : Table) (answer : Result (List Counted) TableRefusal) → table_of count_columns bytes ≡ Ok table →
+    table_read (count_rule list.codes) table ≡ answer →
     forecast_file list bytes ≡ (answer >>= (λ counts. Ok (with_forecasts list counts)))
 of_file list bytes table answer file read =
     ap (λ t. (t >>= table_read (count_rule list.codes)) >>= (λ counts. Ok (with_forecasts list counts))) file
     ∙ ap (λ counts. counts >>= (λ cs. Ok (with_forecasts list cs))) read
 
-pub all_set : (list new : StayList) (bytes : List ℕ) (table : Table) (named : List Counted) → table_of count_columns bytes ≡ Ok table → table_read (count_rule list.codes) table ≡ Ok named →
+pub all_set : (list new : StayList) (bytes : List ℕ) (table : Table) (named : List Counted) → table_of count_columns bytes ≡ Ok table →
+    table_read (count_rule list.codes) table ≡ Ok named →
     new ≡ with_forecasts list named → forecast_file list bytes ≡ Ok new
 all_set list new bytes table named file read set = of_file list bytes table (Ok named) file read ∙ ap (λ l. Ok l) (sym set)
 
-pub refused_file : (list : StayList) (bytes : List ℕ) (table : Table) (named : List Counted) (e : TableRefusal) → table_of count_columns bytes ≡ Ok table → IsRefusedAfter (count_rule list.codes) table named e →
+pub refused_file : (list : StayList) (bytes : List ℕ) (table : Table) (named : List Counted) (e : TableRefusal) → table_of count_columns bytes ≡ Ok table →
+    IsRefusedAfter (count_rule list.codes) table named e →
     forecast_file list bytes ≡ Err e
 refused_file list bytes table named e file refused = of_file list bytes table (Err e) file (refused_after-table (count_rule list.codes) table named e refused)
 
-pub set_before : (list new : StayList) (bytes : List ℕ) (table : Table) (named : List Counted) (e : TableRefusal) → table_of count_columns bytes ≡ Ok table → IsRefusedAfter (count_rule list.codes) table named e →
+pub set_before : (list new : StayList) (bytes : List ℕ) (table : Table) (named : List Counted) (e : TableRefusal) → table_of count_columns bytes ≡ Ok table →
+    IsRefusedAfter (count_rule list.codes) table named e →
     new ≡ with_forecasts list named → sets_before (table_of count_columns bytes) e list new
 set_before list new bytes table named e file refused set =
     let P : Result Table TableRefusal → Type 0 = λ t. sets_before t e list new in
@@ -75,7 +115,8 @@ once_counted-tells line None c d e = (cc)
 once_counted-tells line (Some k) c d e = absurd (cc)
 
 -- each count that is read is in range
-counts_tell : (codes : List (List ℕ)) (rows : List Record) (n : ℕ) (counts : List Counted) → rows_read (count_rule codes) rows n ≡ Ok counts → All (λ c. c.count ≤ MOST_FORECAST) counts
+counts_tell : (codes : List (List ℕ)) (rows : List Record) (n : ℕ) (counts : List Counted) → rows_read (count_rule codes) rows n ≡ Ok counts →
+    All (λ c. c.count ≤ MOST_FORECAST) counts
 counts_tell codes rows zero counts e =
     let same : [] ≡ counts = (cc) in subst (λ cs. All (λ c. c.count ≤ MOST_FORECAST) cs) same (λ k d h. absurd (omega (arith, h)))
 counts_tell codes rows (suc n) counts e =
@@ -88,7 +129,8 @@ counts_tell codes rows (suc n) counts e =
     let same = once_counted-tells line (count_of before counted.stay) counted one once in
     let all : before ++ one ∷ [] ≡ counts = (cc) in
     subst (λ cs. All (λ c. c.count ≤ MOST_FORECAST) cs) all
-    (All-push (λ (c : Counted). c.count ≤ MOST_FORECAST) before one (counts_tell codes rows n before read) (omega (arith, small, ap (λ (x : Counted). x.count) same)))
+    (All-push (λ (c : Counted). c.count ≤ MOST_FORECAST) before one (counts_tell codes rows n before read)
+    (omega (arith, small, ap (λ (x : Counted). x.count) same)))
 
 small_of : (counts : List Counted) → All (λ c. c.count ≤ MOST_FORECAST) counts → (j c : ℕ) → count_of counts j ≡ Some c → c ≤ MOST_FORECAST
 small_of [] all j c e = absurd (cc)
@@ -103,7 +145,8 @@ unless_stopped-tells None counts all e = (cc)
 unless_stopped-tells (Some line) counts all e = absurd (cc)
 
 -- a forecast file leaves codes and nights as they are, and every stay within its limits
-pub forecast_file-tells : (list new : StayList) (bytes : List ℕ) → IsStayList list → forecast_file list bytes ≡ Ok new → IsStayList new × (new.nights ≡ list.nights) × (new.codes ≡ list.codes)
+pub forecast_file-tells : (list new : StayList) (bytes : List ℕ) → IsStayList list → forecast_file list bytes ≡ Ok new →
+    IsStayList new × (new.nights ≡ list.nights) × (new.codes ≡ list.codes)
 forecast_file-tells list new bytes is e =
     let (counts, file, made) = steps_tell (counts_file list.codes bytes) (λ counts. Ok (with_forecasts list counts)) new e in
     let (table, read, told) = steps_tell (table_of count_columns bytes) (table_read (count_rule list.codes)) counts file in

@@ -1,5 +1,36 @@
 -- Rows that are read one after the other.
-use Rattle.std.proofs.Common.{◌≡◌, ◌∙◌, sym, ap, refl, ℕ, zero, suc, ◌+◌, ◌<◌, ◌≤◌, List, [], ◌∷◌, ◌++◌, length, get_or, Option, Some, None, Result, Ok, Err, arith, add-one, inl, inr, append-nil, append_assoc, length-append}
+use Rattle.std.proofs.Common.{
+  ◌≡◌,
+  ◌∙◌,
+  sym,
+  ap,
+  refl,
+  ℕ,
+  zero,
+  suc,
+  ◌+◌,
+  ◌<◌,
+  ◌≤◌,
+  List,
+  [],
+  ◌∷◌,
+  ◌++◌,
+  length,
+  get_or,
+  Option,
+  Some,
+  None,
+  Result,
+  Ok,
+  Err,
+  arith,
+  add-one,
+  inl,
+  inr,
+  append-nil,
+  append_assoc,
+  length-append,
+}
 use Rattle.std.proofs.Math.Seq.{get_or-append_seam}
 use Rattle.std.proofs.lemmas.Bool.{cases_eq}
 use Rattle.bp_stayfile.specs.declared.error.TableRefusal.{TableRefusal}
@@ -21,7 +52,8 @@ pub rows_read-more : {A : Type 0} (rule : List A → Record → Result A TableRe
 rows_read-more rule rows n before answer so_far here = rw (add-one, so_far, here)
 
 -- the first refusal is the answer of the whole table
-pub rows_read-stays : {A : Type 0} (rule : List A → Record → Result A TableRefusal) (rows : List Record) (e : TableRefusal) (n m : ℕ) → rows_read rule rows n ≡ Err e → n ≤ m → rows_read rule rows m ≡ Err e
+pub rows_read-stays : {A : Type 0} (rule : List A → Record → Result A TableRefusal) (rows : List Record) (e : TableRefusal) (n m : ℕ) →
+    rows_read rule rows n ≡ Err e → n ≤ m → rows_read rule rows m ≡ Err e
 rows_read-stays rule rows e n zero h le = let same : n ≡ 0 = omega arith in rw same at h
 rows_read-stays rule rows e n (suc m) h le =
     elim (cases_eq n (suc m)) [
@@ -35,7 +67,8 @@ rows_read-refused rule rows n before e so_far here within =
     rows_read-stays rule rows e (n + 1) (length rows) (rw (add-one, so_far, here)) within
 
 -- a table that is refused after some rows has that refusal
-pub refused_after-table : {A : Type 0} (rule : List A → Record → Result A TableRefusal) (table : Table) (before : List A) (e : TableRefusal) → IsRefusedAfter rule table before e → table_read rule table ≡ Err e
+pub refused_after-table : {A : Type 0} (rule : List A → Record → Result A TableRefusal) (table : Table) (before : List A) (e : TableRefusal) →
+    IsRefusedAfter rule table before e → table_read rule table ≡ Err e
 refused_after-table rule table before e h = by_stop h.stops
   where
     by_stop : stops_at rule table h.read_rows before e → table_read rule table ≡ Err e
@@ -55,12 +88,14 @@ module _ {A : Type 0} (rule : List A → Record → Result A TableRefusal) (whol
   none_yet = record { first = []; rows = refl; stop = refl; read = refl }
 
   -- the row at which a reader stands
-  row_is : (old new : TableRow) (before : List A) (h : IsReadUpTo rule whole old.behind before) → IsNext old new → get_or whole.rows (length h.first) [] ≡ new.fields
+  row_is : (old new : TableRow) (before : List A) (h : IsReadUpTo rule whole old.behind before) → IsNext old new →
+      get_or whole.rows (length h.first) [] ≡ new.fields
   row_is old new before h next =
       ap (λ rs. get_or rs (length h.first) []) (h.rows ∙ ap (λ rs. h.first ++ rs) next.rows) ∙ get_or-append_seam h.first new.fields new.behind.rows []
 
   -- a row more
-  pub one_more : (old new : TableRow) (before : List A) (answer : A) → IsReadUpTo rule whole old.behind before → IsNext old new → rule before new.fields ≡ Ok answer →
+  pub one_more : (old new : TableRow) (before : List A) (answer : A) → IsReadUpTo rule whole old.behind before → IsNext old new →
+      rule before new.fields ≡ Ok answer →
       IsReadUpTo rule whole new.behind (before ++ answer ∷ [])
   one_more old new before answer h next here =
       let at : rule before (get_or whole.rows (length h.first) []) ≡ Ok answer = ap (rule before) (row_is old new before h next) ∙ here in
@@ -73,7 +108,8 @@ module _ {A : Type 0} (rule : List A → Record → Result A TableRefusal) (whol
       }
 
   -- a row that is refused
-  pub refused_at : (old new : TableRow) (before : List A) (e : TableRefusal) → IsReadUpTo rule whole old.behind before → IsNext old new → rule before new.fields ≡ Err e → IsRefusedAfter rule whole before e
+  pub refused_at : (old new : TableRow) (before : List A) (e : TableRefusal) → IsReadUpTo rule whole old.behind before → IsNext old new →
+      rule before new.fields ≡ Err e → IsRefusedAfter rule whole before e
   refused_at old new before e h next here =
       let size = ap length (h.rows ∙ ap (λ rs. h.first ++ rs) next.rows) ∙ length-append h.first (new.fields ∷ new.behind.rows) in
       record {
@@ -93,7 +129,8 @@ module _ {A : Type 0} (rule : List A → Record → Result A TableRefusal) (whol
       rw (read, stop) refl
 
   -- all rows are read, and the record behind them is not taken
-  pub refused_behind : (old : TableRow) (before : List A) (e : TableRefusal) → IsReadUpTo rule whole old.behind before → IsBeforeStop old e → IsRefusedAfter rule whole before e
+  pub refused_behind : (old : TableRow) (before : List A) (e : TableRefusal) → IsReadUpTo rule whole old.behind before → IsBeforeStop old e →
+      IsRefusedAfter rule whole before e
   refused_behind old before e h stops =
       let stop : whole.stop ≡ Some stops.line = h.stop ∙ stops.stop in
       record {

@@ -5,7 +5,8 @@ use Rattle.std.proofs.lemmas.Bool.{and_parts}
 use Rattle.std.proofs.lemmas.List.{drop_more}
 
 -- one element more
-pub list_all-drop : {X : Type 0} (p : X → Bool) (xs : List X) (i : ℕ) (d : X) → i < length xs → list_all p (drop i xs) ≡ (p (get_or xs i d) && list_all p (drop (i + 1) xs))
+pub list_all-drop : {X : Type 0} (p : X → Bool) (xs : List X) (i : ℕ) (d : X) → i < length xs →
+    list_all p (drop i xs) ≡ (p (get_or xs i d) && list_all p (drop (i + 1) xs))
 list_all-drop p xs i d h = rw (drop_more xs i d h)
 
 -- each element passes

@@ -1,5 +1,24 @@
 -- The bookings file: the rooms that are sold of each night.
-use Rattle.std.specs.Prelude.{◌≡◌, ℕ, ◌≤◌, if◌then◌else◌, List, map, find, length, slice_index, slice_index_or, EachIndex, Option, Some, None, unwrap_or, Result, Ok, Err}
+use Rattle.std.specs.Prelude.{
+  ◌≡◌,
+  ℕ,
+  ◌≤◌,
+  if◌then◌else◌,
+  List,
+  map,
+  find,
+  length,
+  slice_index,
+  slice_index_or,
+  EachIndex,
+  Option,
+  Some,
+  None,
+  unwrap_or,
+  Result,
+  Ok,
+  Err,
+}
 use Rattle.std.specs.List.{range_with_len}
 use Rattle.bp_types.specs.declared.stay.Stay.{Stay}
 use Rattle.bp_types.specs.Program.{covers, no_stay}

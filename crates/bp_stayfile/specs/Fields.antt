@@ -2,6 +2,7 @@
 use Rattle.std.specs.Prelude.{ℕ, Bool, ◌&&◌, ◌||◌, ◌==◌, if◌then◌else◌, List, [], ◌∷◌, length, reverse, Option, Some, None}
 use Rattle.std.specs.List.{list_all}
 use Rattle.std.specs.Str.{all_ascii_digits}
+use Rattle.bp_types.specs.declared.limits.TheConstants.{MOST_CODE}
 use Rattle.bp_hotelfile.specs.Numbers.{number, is_between}
 
 -- without the spaces at the front
@@ -22,6 +23,6 @@ abbrev pub is_code_byte : ℕ → Bool
 is_code_byte c =
     is_between 65 90 c || is_between 97 122 c || is_between 48 57 c || (c == 46) || (c == 95) || (c == 45)
 
--- 1 to 16 of these
+-- some of these, and not too many
 abbrev pub is_code : List ℕ → Bool
-is_code t = is_between 1 16 (length t) && list_all is_code_byte t
+is_code t = is_between 1 MOST_CODE (length t) && list_all is_code_byte t

@@ -20,7 +20,8 @@ module _ {A : Type 0} where
   -- why a row is not read, or why there is none more to read
   abbrev pub stops_at : (List A → Record → Result A TableRefusal) → Table → ℕ → List A → TableRefusal → Type 0
   stops_at rule table n before e =
-      ((n < length table.rows) × (rule before (slice_index_or table.rows n []) ≡ Err e)) ⊎ ((n ≡ length table.rows) × (unless_stopped table.stop before ≡ Err e))
+      ((n < length table.rows) × (rule before (slice_index_or table.rows n []) ≡ Err e)) ⊎
+      ((n ≡ length table.rows) × (unless_stopped table.stop before ≡ Err e))
 
   -- a table that is refused, with what the rows before the refused record said
   pub record IsRefusedAfter (rule : List A → Record → Result A TableRefusal) (table : Table) (before : List A) (e : TableRefusal) : Type 0 where

@@ -1,4 +1,21 @@
-ghost use Rattle.std.specs.Prelude.{◌≡◌, ◌<◌, ◌≤◌, ◌+◌, ◌*◌, ◌^◌, ℕ, List, find, if◌then◌else◌, length, slice_index, IfOk, IfErr, Ok, Err};
+ghost use Rattle.std.specs.Prelude.{
+  ◌≡◌,
+  ◌<◌,
+  ◌≤◌,
+  ◌+◌,
+  ◌*◌,
+  ◌^◌,
+  ℕ,
+  List,
+  find,
+  if◌then◌else◌,
+  length,
+  slice_index,
+  IfOk,
+  IfErr,
+  Ok,
+  Err,
+};
 ghost use Rattle.std.specs.List.{range_with_len};
 ghost use Rattle.bp_types.specs.Program.{covers};
 ghost use Rattle.bp_types.specs.House.{is_oversold};

@@ -1,4 +1,21 @@
-ghost use Rattle.std.specs.Prelude.{◌≡◌, ◌<◌, List, length, slice_index_or, MatchResult, IfOk, IfErr, Ok, Err, Some, None, is_some, slice_set, true, replicate};
+ghost use Rattle.std.specs.Prelude.{
+  ◌≡◌,
+  ◌<◌,
+  List,
+  length,
+  slice_index_or,
+  MatchResult,
+  IfOk,
+  IfErr,
+  Ok,
+  Err,
+  Some,
+  None,
+  is_some,
+  slice_set,
+  true,
+  replicate,
+};
 ghost use Rattle.bp_stayfile.specs.declared.counts.Counted.{Counted};
 ghost use Rattle.bp_stayfile.specs.Reading.{table_read, IsRefusedAfter};
 ghost use Rattle.bp_stayfile.specs.Tables.{IsHeaderOf, table_of};
@@ -51,7 +68,8 @@ fn put(counts: &mut [Option<u64>], line: u64, counted: Counted) -> Result<(), Ta
     ensures { MatchResult result
         (λ _. (slice_index_or counts.old counted.stay None ≡ None)
         × (counts.new ≡ slice_set counts.old counted.stay (Some counted.count)))
-        (λ e. (e ≡ TableRefusal.TwiceCode line) × (is_some (slice_index_or counts.old counted.stay None) ≡ true) × (counts.new ≡ counts.old)) }
+        (λ e. (e ≡ TableRefusal.TwiceCode line) × (is_some (slice_index_or counts.old counted.stay None) ≡ true) ×
+        (counts.new ≡ counts.old)) }
 {
     let stay = counted.stay as usize;
     if counts[stay].is_some() {
@@ -77,9 +95,12 @@ pub(crate) fn put_counts(
     requires line { header.line ≡ 1 }
     requires columns { header.behind.columns ≡ 2 }
     requires empty { counts.old ≡ replicate (length codes.now) None }
-    ensures read { IfOk result (λ _. (named : List Counted) × (table_read (count_rule codes.now) header.entry.behind ≡ Ok named) × AreLaidOut (length codes.now) named counts.new) }
+    ensures read { IfOk result (λ _. (named : List Counted) ×
+        (table_read (count_rule codes.now) header.entry.behind ≡ Ok named) ×
+        AreLaidOut (length codes.now) named counts.new) }
     ensures refused { IfErr result (λ e. IfRefused e
-        (λ r. (named : List Counted) × IsRefusedAfter (count_rule codes.now) header.entry.behind named r × AreLaidOut (length codes.now) named counts.new)) }
+        (λ r. (named : List Counted) × IsRefusedAfter (count_rule codes.now) header.entry.behind named r ×
+        AreLaidOut (length codes.now) named counts.new)) }
 {
     let mut at = header;
     while let Some(row) = at.next()? {

@@ -9,7 +9,8 @@ use std::alloc::Global;
 
 /// The refusal that a reading ended with, if it did not end for want of memory.
 fn refusal_of(outcome: Result<(), TableError>) -> Result<Option<TableRefusal>, Memory>
-    ensures { IfOk result (λ refusal. MatchOption refusal (outcome ≡ Ok tt) (λ r. outcome ≡ Err (TableError.Refused r))) }
+    ensures { IfOk result (λ refusal. MatchOption refusal (outcome ≡ Ok tt) (λ r. outcome ≡
+        Err (TableError.Refused r))) }
 {
     match outcome {
         Ok(()) => Ok(None),

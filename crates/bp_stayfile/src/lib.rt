@@ -2,6 +2,17 @@
 //!
 //! Tables are CSV with a header. Nights are numbered from 0, money is in minor units, forecasts are in
 //! units of the house, and rooms sold are whole rooms.
+//!
+//! The rows of a table, one by one.
+//!
+//! ```
+//! let at = header(rt.alloc(), b"code\na", &[Column::Code])?;
+//! let Some(row) = at.next()? else {
+//!     return Err(Fail::new("no row"));
+//! };
+//! assert_eq!(rt; row.line(), 2);
+//! assert!(rt; row.next()?.is_none());
+//! ```
 #![tactic(auto)]
 
 mod bookings;

@@ -1,6 +1,30 @@
 -- Texts that are written as they are spelt. A speller over a `Draft` cites `drafted_more` behind a part that went well,
 -- `refused_more` and `refused_longer` behind one that was refused, and `stopped` where memory was wanted between two.
-use Rattle.std.proofs.Common.{◌≡◌, ℕ, ◌+◌, ◌<◌, List, [], ◌∷◌, ◌++◌, length, get_or, take, drop, Option, Result, Ok, Err, IsErr, refl, ap, sym, subst, ◌∙◌, append_assoc}
+use Rattle.std.proofs.Common.{
+  ◌≡◌,
+  ℕ,
+  ◌+◌,
+  ◌<◌,
+  List,
+  [],
+  ◌∷◌,
+  ◌++◌,
+  length,
+  get_or,
+  take,
+  drop,
+  Option,
+  Result,
+  Ok,
+  Err,
+  IsErr,
+  refl,
+  ap,
+  sym,
+  subst,
+  ◌∙◌,
+  append_assoc,
+}
 use Rattle.std.proofs.lemmas.List.{append-nil, take-append-drop, take_more}
 use Rattle.std.proofs.lemmas.Grind.{flat_map-append}
 use Rattle.bp_edges.specs.Writing.{Appended, AppendedPrefix, Writes}
@@ -20,7 +44,8 @@ pub drafted_more : {before middle now : Option (List ℕ)} (draft new text bytes
     → IsDrafted before middle draft text → IsDrafted middle now new (draft ++ bytes) → IsDrafted before now new (text ++ bytes)
 drafted_more draft new text bytes first second = record {
   part = first.part ++ second.part;
-  splits = ap (λ t. t ++ bytes) first.splits ∙ append_assoc first.part draft bytes ∙ ap (λ t. first.part ++ t) second.splits ∙ sym (append_assoc first.part second.part new);
+  splits = ap (λ t. t ++ bytes) first.splits ∙ append_assoc first.part draft bytes ∙ ap (λ t. first.part ++ t) second.splits ∙
+      sym (append_assoc first.part second.part new);
   written = Appended-append first.part second.part first.written second.written;
 }
 
@@ -47,7 +72,8 @@ pub refused_more : {before middle now : Option (List ℕ)} (draft text bytes : L
     → IsDrafted before middle draft text → AppendedPrefix middle now (draft ++ bytes) → AppendedPrefix before now (text ++ bytes)
 refused_more {before} {middle} {now} draft text bytes first refused =
     let P : List ℕ → Type 0 = λ t. AppendedPrefix before now t in
-    subst P (sym (ap (λ t. t ++ bytes) first.splits ∙ append_assoc first.part draft bytes)) (AppendedPrefix-append first.part (draft ++ bytes) first.written refused)
+    subst P (sym (ap (λ t. t ++ bytes) first.splits ∙ append_assoc first.part draft bytes))
+    (AppendedPrefix-append first.part (draft ++ bytes) first.written refused)
 
 -- what was refused is refused of a longer text
 pub refused_longer : {before now : Option (List ℕ)} (draft bytes more : List ℕ)
@@ -112,7 +138,8 @@ first_of_three before now old new first second third text result is refused part
 
 -- the second of three was refused
 pub second_of_three : {E : Type 0} (before middle now : Option (List ℕ)) (old draft new first second third text : List ℕ) (result : Result (Unit {0}) E)
-    → text ≡ (first ++ second) ++ third → IsErr result → IsDrafted before middle draft (old ++ first) → AppendedPrefix middle now (draft ++ second) → Drafts before now old new text result
+    → text ≡ (first ++ second) ++ third → IsErr result → IsDrafted before middle draft (old ++ first) → AppendedPrefix middle now (draft ++ second) →
+    Drafts before now old new text result
 second_of_three before middle now old draft new first second third text result is refused one part =
     let P : List ℕ → Type 0 = λ t. AppendedPrefix before now t in
     let Q : List ℕ → Type 0 = λ t. AppendedPrefix before now (old ++ t) in
@@ -121,7 +148,8 @@ second_of_three before middle now old draft new first second third text result i
 
 -- three, the last of which may be refused
 pub all_three : {E : Type 0} (before middle later now : Option (List ℕ)) (old draft next new first second third text : List ℕ) (result : Result (Unit {0}) E)
-    → text ≡ (first ++ second) ++ third → IsDrafted before middle draft (old ++ first) → IsDrafted middle later next (draft ++ second) → Drafts later now next new third result
+    → text ≡ (first ++ second) ++ third → IsDrafted before middle draft (old ++ first) → IsDrafted middle later next (draft ++ second) →
+    Drafts later now next new third result
     → Drafts before now old new text result
 all_three before middle later now old draft next new first second third text result is one two last =
     let P : List ℕ → Type 0 = λ t. Drafts before now old new t result in
@@ -136,8 +164,10 @@ rest_stopped before now old new draft taken rest bytes result splits so_far refu
     Drafts-refused before now old new bytes result refused (subst P (sym whole) (stopped draft (old ++ taken) rest so_far))
 
 -- a first piece of the rest filled the draft, which was refused
-pub piece_refused : {E : Type 0} (before middle now : Option (List ℕ)) (old new draft taken rest front more bytes full inside : List ℕ) (result : Result (Unit {0}) E)
-    → bytes ≡ taken ++ rest → rest ≡ front ++ more → full ≡ inside ++ front → inside ≡ draft → IsDrafted before middle draft (old ++ taken) → AppendedPrefix middle now full → IsErr result
+pub piece_refused : {E : Type 0} (before middle now : Option (List ℕ)) (old new draft taken rest front more bytes full inside : List ℕ)
+    (result : Result (Unit {0}) E)
+    → bytes ≡ taken ++ rest → rest ≡ front ++ more → full ≡ inside ++ front → inside ≡ draft → IsDrafted before middle draft (old ++ taken) →
+    AppendedPrefix middle now full → IsErr result
     → Drafts before now old new bytes result
 piece_refused before middle now old new draft taken rest front more bytes full inside result begins splits is seen so_far part refused =
     let P : List ℕ → Type 0 = λ t. AppendedPrefix before now t in
@@ -145,16 +175,19 @@ piece_refused before middle now old new draft taken rest front more bytes full i
     let whole : old ++ bytes ≡ ((old ++ taken) ++ front) ++ more =
     ap (λ t. old ++ t) (begins ∙ ap (λ t. taken ++ t) splits) ∙ sym (append_assoc old taken (front ++ more)) ∙ sym (append_assoc (old ++ taken) front more) in
     Drafts-refused before now old new bytes result refused
-    (subst P (sym whole) (AppendedPrefix-longer ((old ++ taken) ++ front) more (refused_more draft (old ++ taken) front so_far (subst Q (is ∙ ap (λ t. t ++ front) seen) part))))
+    (subst P (sym whole) (AppendedPrefix-longer ((old ++ taken) ++ front) more
+    (refused_more draft (old ++ taken) front so_far (subst Q (is ∙ ap (λ t. t ++ front) seen) part))))
 
 -- or was handed on
 pub piece_out : {before middle now : Option (List ℕ)} (old draft taken front full inside new : List ℕ)
-    → full ≡ inside ++ front → inside ≡ draft → new ≡ [] → IsDrafted before middle draft (old ++ taken) → Appended middle now full → IsDrafted before now new (old ++ (taken ++ front))
+    → full ≡ inside ++ front → inside ≡ draft → new ≡ [] → IsDrafted before middle draft (old ++ taken) → Appended middle now full →
+    IsDrafted before now new (old ++ (taken ++ front))
 piece_out {before} {middle} {now} old draft taken front full inside new is seen none so_far out =
     let P : List ℕ → Type 0 = λ d. IsDrafted before now d (old ++ (taken ++ front)) in
     let Q : List ℕ → Type 0 = λ t. IsDrafted before middle full t in
     let whole : (old ++ taken) ++ front ≡ old ++ (taken ++ front) = append_assoc old taken front in
-    subst P (sym none) (drafted_out full (old ++ (taken ++ front)) (subst Q whole (drafted_here draft full (old ++ taken) front so_far (is ∙ ap (λ t. t ++ front) seen))) out)
+    subst P (sym none) (drafted_out full (old ++ (taken ++ front))
+    (subst Q whole (drafted_here draft full (old ++ taken) front so_far (is ∙ ap (λ t. t ++ front) seen))) out)
 
 -- the two parts of a list that was cut
 pub cut_parts : (n : ℕ) (rest front more : List ℕ) → front ≡ take n rest → more ≡ drop n rest → rest ≡ front ++ more
@@ -177,7 +210,8 @@ numbers_text-parts ns i = ap numbers_text (sym (take-append-drop i ns)) ∙ flat
 
 -- one of the numbers was refused
 pub number_refused : {E : Type 0} (before middle now : Option (List ℕ)) (old draft new ns : List ℕ) (i : ℕ) (result : Result (Unit {0}) E)
-    → i < length ns → IsDrafted before middle draft (old ++ numbers_text (take i ns)) → AppendedPrefix middle now (draft ++ (32 ∷ spelled (get_or ns i 0))) → IsErr result
+    → i < length ns → IsDrafted before middle draft (old ++ numbers_text (take i ns)) → AppendedPrefix middle now (draft ++ (32 ∷ spelled (get_or ns i 0))) →
+    IsErr result
     → Drafts before now old new (numbers_text ns) result
 number_refused before middle now old draft new ns i result within so_far part refused =
     let P : List ℕ → Type 0 = λ t. AppendedPrefix before now t in
@@ -197,7 +231,8 @@ number_drafted before middle now old draft new ns i within so_far more =
     (drafted_more draft new (old ++ numbers_text (take i ns)) (32 ∷ spelled (get_or ns i 0)) so_far more)
 
 -- what is cut in front goes to what was taken
-pub taken_more : (n : ℕ) (bytes taken rest front more : List ℕ) → bytes ≡ taken ++ rest → front ≡ take n rest → more ≡ drop n rest → bytes ≡ (taken ++ front) ++ more
+pub taken_more : (n : ℕ) (bytes taken rest front more : List ℕ) → bytes ≡ taken ++ rest → front ≡ take n rest → more ≡ drop n rest →
+    bytes ≡ (taken ++ front) ++ more
 taken_more n bytes taken rest front more begins first second =
     begins ∙ ap (λ t. taken ++ t) (cut_parts n rest front more first second) ∙ sym (append_assoc taken front more)
 

@@ -27,7 +27,8 @@ all_front [] ys all = λ k d h. absurd (omega arith)
 all_front (x ∷ xs) ys all = line_in_front x xs (all_head x (xs ++ ys) all) (all_front xs ys (all_tail x (xs ++ ys) all))
 
 -- the lines that begin a text have no ends in them, where those of every value have none
-pub no_end_in_front : {V : Type 0} (lines : V → List Line) (Within : V → Type 0) (front : List Line) → ((v : V) → All HasNoEnd (lines v)) → Begins lines Within front → All HasNoEnd front
+pub no_end_in_front : {V : Type 0} (lines : V → List Line) (Within : V → Type 0) (front : List Line) → ((v : V) → All HasNoEnd (lines v)) →
+    Begins lines Within front → All HasNoEnd front
 no_end_in_front lines Within front no_ends b =
     let P : List Line → Type 0 = λ ls. All HasNoEnd ls in
     all_front front (b.1 ∷ b.2) (subst P b.4 (no_ends b.0))

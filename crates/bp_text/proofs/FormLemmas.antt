@@ -1,6 +1,49 @@
 -- Numbers found from left to right: what was seen, and what is left.
-use Rattle.std.proofs.Common.{◌≡◌, ℕ, zero, suc, ◌+◌, ◌-◌, ◌<◌, ◌≤◌, ap, subst, ◌∙◌, sym, refl, arith, Bool, false, ◌==◌, List, [], ◌∷◌, ◌++◌, length, All, get_or, slice_index, append_assoc, inl, inr, length-append, take, drop, drop-cons}
-use Rattle.std.proofs.lemmas.List.{append-nil, append_cancel_left, get_or_default, get_or-take, length-take-le, take-append-drop, drop_all, get_or_append_left, get_or-append_right}
+use Rattle.std.proofs.Common.{
+  ◌≡◌,
+  ℕ,
+  zero,
+  suc,
+  ◌+◌,
+  ◌-◌,
+  ◌<◌,
+  ◌≤◌,
+  ap,
+  subst,
+  ◌∙◌,
+  sym,
+  refl,
+  arith,
+  Bool,
+  false,
+  ◌==◌,
+  List,
+  [],
+  ◌∷◌,
+  ◌++◌,
+  length,
+  All,
+  get_or,
+  slice_index,
+  append_assoc,
+  inl,
+  inr,
+  length-append,
+  take,
+  drop,
+  drop-cons,
+}
+use Rattle.std.proofs.lemmas.List.{
+  append-nil,
+  append_cancel_left,
+  get_or_default,
+  get_or-take,
+  length-take-le,
+  take-append-drop,
+  drop_all,
+  get_or_append_left,
+  get_or-append_right,
+}
 use Rattle.std.proofs.lemmas.List.Elements.{All-append}
 use Rattle.std.proofs.lemmas.Grind.{flat_map-append}
 use Rattle.std.proofs.lemmas.Bool.{cases_lt, eqb-false}
@@ -41,13 +84,15 @@ nothing_seen text bounds = record {
 abbrev one_more : List ℕ → ℕ → List ℕ
 one_more ns n = ns ++ n ∷ []
 
-within_front : (bounds : Bounds) (ns : List ℕ) (n : ℕ) → AreWithin bounds (one_more ns n) → AreWithin bounds ns × (length ns < bounds.most) × (n ≤ bounds.greatest)
+within_front : (bounds : Bounds) (ns : List ℕ) (n : ℕ) → AreWithin bounds (one_more ns n) →
+    AreWithin bounds ns × (length ns < bounds.most) × (n ≤ bounds.greatest)
 within_front bounds ns n w =
     let long : length (one_more ns n) ≡ length ns + 1 = length-append ns (n ∷ []) in (
       (omega (arith, w.0, long), λ k d h. let at = get_or_append_left ns (n ∷ []) d k h in omega (arith, at, w.1 k d (omega (arith, long)))),
       omega (arith, w.0, long),
       (let zero_left : length ns - length ns ≡ 0 = omega arith in
-          let at : get_or (one_more ns n) (length ns) 0 ≡ n = get_or-append_right ns (n ∷ []) (length ns) (length ns) 0 refl (omega arith) ∙ ap (λ k. get_or (n ∷ []) k 0) zero_left in
+          let at : get_or (one_more ns n) (length ns) 0 ≡ n = get_or-append_right ns (n ∷ []) (length ns) (length ns) 0 refl (omega arith) ∙
+          ap (λ k. get_or (n ∷ []) k 0) zero_left in
           omega (arith, at, w.1 (length ns) 0 (omega (arith, long)))),
     )
 
@@ -60,15 +105,18 @@ within_more bounds ns n w room small =
     only_one zero d h = small
     only_one (suc k) d h = absurd (omega arith)
 
-spells_more : (text rest word more ns : List ℕ) (n : ℕ) → text ≡ numbers_text ns ++ rest → IsWordAhead rest word more → word ≡ spelled n → text ≡ numbers_text (one_more ns n) ++ more
+spells_more : (text rest word more ns : List ℕ) (n : ℕ) → text ≡ numbers_text ns ++ rest → IsWordAhead rest word more → word ≡ spelled n →
+    text ≡ numbers_text (one_more ns n) ++ more
 spells_more text rest word more ns n e ahead is =
     let f : ℕ → List ℕ = λ n. 32 ∷ spelled n in
     let next : numbers_text (n ∷ []) ≡ 32 ∷ spelled n = append-nil (32 ∷ spelled n) in
     let all : numbers_text (one_more ns n) ≡ numbers_text ns ++ 32 ∷ spelled n = flat_map-append f ns (n ∷ []) ∙ ap (λ xs. numbers_text ns ++ xs) next in
-    e ∙ ap (λ xs. numbers_text ns ++ xs) (ahead.splits ∙ ap (λ w. 32 ∷ w ++ more) is) ∙ sym (append_assoc (numbers_text ns) (32 ∷ spelled n) more) ∙ ap (λ xs. xs ++ more) (sym all)
+    e ∙ ap (λ xs. numbers_text ns ++ xs) (ahead.splits ∙ ap (λ w. 32 ∷ w ++ more) is) ∙ sym (append_assoc (numbers_text ns) (32 ∷ spelled n) more) ∙
+    ap (λ xs. xs ++ more) (sym all)
 
 only_more : (text rest word more ns : List ℕ) (n : ℕ) →
-    ((ms : List ℕ) → text ≡ numbers_text ms → (more : List ℕ) × (ms ≡ ns ++ more) × (rest ≡ numbers_text more)) → IsWordAhead rest word more → word ≡ spelled n →
+    ((ms : List ℕ) → text ≡ numbers_text ms → (more : List ℕ) × (ms ≡ ns ++ more) × (rest ≡ numbers_text more)) → IsWordAhead rest word more →
+    word ≡ spelled n →
     (ms : List ℕ) → text ≡ numbers_text ms → (left : List ℕ) × (ms ≡ one_more ns n ++ left) × (more ≡ numbers_text left)
 only_more text rest word more ns n only ahead is ms e =
     let before = only ms e in
@@ -83,7 +131,8 @@ pub length_ahead : (text word more : List ℕ) → IsWordAhead text word more �
 length_ahead text word more ahead = omega (arith, ap length ahead.splits, length-append word more)
 
 -- the next number is too great
-pub seen_great : (text rest word more : List ℕ) (bounds : Bounds) (items : List ℕ) (count n : ℕ) → IsSeen text rest bounds items count → IsWordAhead rest word more →
+pub seen_great : (text rest word more : List ℕ) (bounds : Bounds) (items : List ℕ) (count n : ℕ) → IsSeen text rest bounds items count →
+    IsWordAhead rest word more →
     word ≡ spelled n → bounds.greatest < n → IsSeen text more bounds items (count + 1)
 seen_great text rest word more bounds items count n seen ahead is great = record {
   numbers = one_more seen.numbers n;
@@ -97,7 +146,8 @@ seen_great text rest word more bounds items count n seen ahead is great = record
 }
 
 -- the next number is kept, or there is no room for it
-pub seen_value : (text rest word more : List ℕ) (bounds : Bounds) (items kept : List ℕ) (count n : ℕ) → IsSeen text rest bounds items count → IsWordAhead rest word more →
+pub seen_value : (text rest word more : List ℕ) (bounds : Bounds) (items kept : List ℕ) (count n : ℕ) → IsSeen text rest bounds items count →
+    IsWordAhead rest word more →
     word ≡ spelled n → n ≤ bounds.greatest → IsKept bounds n items kept → IsSeen text more bounds kept (count + 1)
 seen_value text rest word more bounds items kept count n seen ahead is small (inl (room, e)) =
     let length_kept : length kept ≡ length items + 1 = omega (arith, ap length e, length-append items (n ∷ [])) in
@@ -124,7 +174,8 @@ seen_value text rest word more bounds items kept count n seen ahead is small (in
 }
 
 -- what the numbers say once all was seen
-pub found_whole : (text rest : List ℕ) (bounds : Bounds) (items : List ℕ) (count : ℕ) → IsSeen text rest bounds items count → length rest ≡ 0 → count ≡ length items →
+pub found_whole : (text rest : List ℕ) (bounds : Bounds) (items : List ℕ) (count : ℕ) → IsSeen text rest bounds items count → length rest ≡ 0 →
+    count ≡ length items →
     (text ≡ numbers_text items) × AreWithin bounds items
 found_whole text rest bounds items count seen none all =
     let parts = seen.whole (sym all) in
@@ -137,7 +188,8 @@ found_whole text rest bounds items count seen none all =
     length_zero [] e = refl
     length_zero (x ∷ xs) e = absurd (omega (arith, e))
 
-pub found_great : (text rest : List ℕ) (bounds : Bounds) (items : List ℕ) (count : ℕ) → IsSeen text rest bounds items count → length rest ≡ 0 → (count ≡ length items → ⊥) →
+pub found_great : (text rest : List ℕ) (bounds : Bounds) (items : List ℕ) (count : ℕ) → IsSeen text rest bounds items count → length rest ≡ 0 →
+    (count ≡ length items → ⊥) →
     (ns : List ℕ) × (text ≡ numbers_text ns) × (length ns ≡ count) × (AreWithin bounds ns → ⊥)
 found_great text rest bounds items count seen none lost =
     let nothing : rest ≡ [] = length_zero rest none in
@@ -149,7 +201,8 @@ found_great text rest bounds items count seen none lost =
     length_zero (x ∷ xs) e = absurd (omega (arith, e))
 
 -- what is left is no numbers: it does not begin with a space, or no number stands behind it
-pub no_space_no_numbers : (text rest : List ℕ) (bounds : Bounds) (items : List ℕ) (count : ℕ) → IsSeen text rest bounds items count → 0 < length rest → (slice_index rest 0 ≡ 32 → ⊥) →
+pub no_space_no_numbers : (text rest : List ℕ) (bounds : Bounds) (items : List ℕ) (count : ℕ) → IsSeen text rest bounds items count → 0 < length rest →
+    (slice_index rest 0 ≡ 32 → ⊥) →
     (ms : List ℕ) → text ≡ numbers_text ms → ⊥
 no_space_no_numbers text rest bounds items count seen some first ms e =
     let left = seen.only ms e in by_numbers left.0 left.2
@@ -158,7 +211,8 @@ no_space_no_numbers text rest bounds items count seen some first ms e =
     by_numbers [] f = omega (arith, some, ap length f)
     by_numbers (m ∷ more) f = first (ap (λ xs. slice_index xs 0) f)
 
-pub no_number_no_numbers : (text rest word more : List ℕ) (bounds : Bounds) (items : List ℕ) (count : ℕ) → IsSeen text rest bounds items count → IsWordAhead rest word more →
+pub no_number_no_numbers : (text rest word more : List ℕ) (bounds : Bounds) (items : List ℕ) (count : ℕ) → IsSeen text rest bounds items count →
+    IsWordAhead rest word more →
     ((n : ℕ) → word ≡ spelled n → ⊥) → (ms : List ℕ) → text ≡ numbers_text ms → ⊥
 no_number_no_numbers text rest word more bounds items count seen ahead bad ms e =
     let left = seen.only ms e in
@@ -166,7 +220,8 @@ no_number_no_numbers text rest word more bounds items count seen ahead bad ms e 
     bad next.0 next.3
 
 -- a space, the bytes before the next one, and the rest
-pub word_is_ahead : (text : List ℕ) (n : ℕ) → 0 < length text → slice_index text 0 ≡ 32 → n ≤ length (drop 1 text) → ((k : ℕ) → k < n → slice_index (drop 1 text) k ≡ 32 → ⊥) →
+pub word_is_ahead : (text : List ℕ) (n : ℕ) → 0 < length text → slice_index text 0 ≡ 32 → n ≤ length (drop 1 text) →
+    ((k : ℕ) → k < n → slice_index (drop 1 text) k ≡ 32 → ⊥) →
     (n < length (drop 1 text) → slice_index (drop 1 text) n ≡ 32) → IsWordAhead text (take n (drop 1 text)) (drop n (drop 1 text))
 word_is_ahead [] n some first within none stop = absurd (omega arith)
 word_is_ahead (b ∷ bs) n some first within none stop = record {
@@ -184,7 +239,8 @@ pub not_empty : (n : ℕ) (b : Bool) → b ≡ (n == 0) → b ≡ false → 0 < 
 not_empty n b e f = elim (cases_lt 0 n) [ inl some ↦ some | inr none ↦ absurd (eqb-false n 0 (sym e ∙ f) (omega arith)) ]
 
 -- what is found behind a word is found on the line
-pub found_on_line : {E : Type 0} (word line text : List ℕ) (bounds : Bounds) (items : List ℕ) (r : Result Found E) → line ≡ word ++ text → IfOk r (IsFound numbers_text text bounds items) → IfOk r (IsFound (line_of word) line bounds items)
+pub found_on_line : {E : Type 0} (word line text : List ℕ) (bounds : Bounds) (items : List ℕ) (r : Result Found E) → line ≡ word ++ text →
+    IfOk r (IsFound numbers_text text bounds items) → IfOk r (IsFound (line_of word) line bounds items)
 found_on_line word line text bounds items (Err e) is found = tt
 found_on_line word line text bounds items (Ok Bad) is found = λ ns e. found ns (append_cancel_left word text (numbers_text ns) (sym is ∙ e))
 found_on_line word line text bounds items (Ok (Great count)) is found = (found.0, is ∙ ap (λ xs. word ++ xs) found.1, found.2, found.3)

@@ -17,7 +17,8 @@ use Rattle.bp_text.proofs.StageLemmas.{no_lines, one_more_line, refused_here}
 
 -- rows in two parts
 
-pub EachRow-append : {R : Type 0} (P : List R → R → Type 0) (front xs ys : List R) → EachRow P front xs → EachRow P (front ++ xs) ys → EachRow P front (xs ++ ys)
+pub EachRow-append : {R : Type 0} (P : List R → R → Type 0) (front xs ys : List R) → EachRow P front xs → EachRow P (front ++ xs) ys →
+    EachRow P front (xs ++ ys)
 EachRow-append P front [] ys first second = let Q : List _ → Type 0 = λ f. EachRow P f ys in subst Q (append-nil front) second
 EachRow-append P front (x ∷ xs) ys first second =
     let Q : List _ → Type 0 = λ f. EachRow P f ys in
@@ -29,7 +30,8 @@ EachRow-back P front (x ∷ xs) ys all =
     let Q : List _ → Type 0 = λ f. EachRow P f ys in
     subst Q (append_assoc front (x ∷ []) xs) (EachRow-back P (front ++ x ∷ []) xs ys all.1)
 
-pub row_lines-append : {R : Type 0} (line_at : List R → R → Line) (front xs ys : List R) → row_lines line_at front (xs ++ ys) ≡ row_lines line_at front xs ++ row_lines line_at (front ++ xs) ys
+pub row_lines-append : {R : Type 0} (line_at : List R → R → Line) (front xs ys : List R) →
+    row_lines line_at front (xs ++ ys) ≡ row_lines line_at front xs ++ row_lines line_at (front ++ xs) ys
 row_lines-append line_at front [] ys = ap (λ f. row_lines line_at f ys) (sym (append-nil front))
 row_lines-append line_at front (x ∷ xs) ys =
     ap (λ ls. line_at front x ∷ ls) (row_lines-append line_at (front ++ x ∷ []) xs ys
@@ -114,13 +116,15 @@ module _ {V R : Type 0} (lines : V → List Line) (Within : V → Type 0) (line_
       (value_of (front ++ rest.0), rest.0, kind.rows_again (front ++ rest.0) rest.1 rest.2, λ fine. kind.within (front ++ rest.0) rest.1 rest.2 (rest.3 fine))
 
   -- the lines of a value that begins with these rows and one more
-  behind_rows : (front more : List R) (r : R) (v : V) → rows_of v ≡ (front ++ r ∷ []) ++ more → lines v ≡ row_lines line_at [] front ++ line_at front r ∷ row_lines line_at (front ++ r ∷ []) more
+  behind_rows : (front more : List R) (r : R) (v : V) → rows_of v ≡ (front ++ r ∷ []) ++ more →
+      lines v ≡ row_lines line_at [] front ++ line_at front r ∷ row_lines line_at (front ++ r ∷ []) more
   behind_rows front more r v is =
       kind.spelt v ∙ ap (row_lines line_at []) (is ∙ append_assoc front (r ∷ []) more) ∙ row_lines-append line_at [] front (r ∷ more)
 
   -- what a text that begins with the lines of these rows says of the row behind them
   row_behind : (front xs ys : List R) (line : Line) (more : List Line) → EachRow Form front xs → EachRow Form front ys
-      → row_lines line_at front ys ≡ row_lines line_at front xs ++ line ∷ more → (r : R) × (after : List R) × (ys ≡ xs ++ r ∷ after) × (line ≡ line_at (front ++ xs) r)
+      → row_lines line_at front ys ≡ row_lines line_at front xs ++ line ∷ more →
+      (r : R) × (after : List R) × (ys ≡ xs ++ r ∷ after) × (line ≡ line_at (front ++ xs) r)
   row_behind front [] [] line more x y e = absurd (cc)
   row_behind front [] (t ∷ ys) line more x y e =
       let h : line ≡ line_at front t = cc in
@@ -147,7 +151,8 @@ module _ {V R : Type 0} (lines : V → List Line) (Within : V → Type 0) (line_
   row_of rows all v line more e = row_behind [] rows (rows_of v) line more all (kind.formed v) (sym (kind.spelt v) ∙ e)
 
   -- behind these rows, where one is left, stands a line of a row
-  place_behind : (rows : List R) (n : ℕ) → EachRow Form [] rows → EachRow Fine [] rows → left rows ≡ suc n → IsPlace lines Within (row_lines line_at [] rows) (FormLine rows) (FineLine rows)
+  place_behind : (rows : List R) (n : ℕ) → EachRow Form [] rows → EachRow Fine [] rows → left rows ≡ suc n →
+      IsPlace lines Within (row_lines line_at [] rows) (FormLine rows) (FineLine rows)
   place_behind rows n all fine some =
       let p = plain rows in
       let next = kind.goes_on rows n all some in
@@ -157,7 +162,13 @@ module _ {V R : Type 0} (lines : V → List Line) (Within : V → Type 0) (line_
       let Q : List R → Type 0 = λ ys. EachRow Fine [] ys in
       record {
         no_ends = no_ends;
-        begins = (with_plain.0, line_at rows p, row_lines line_at (rows ++ p ∷ []) with_plain.1, with_plain.3 good, behind_rows rows with_plain.1 p with_plain.0 with_plain.2);
+        begins = (
+          with_plain.0,
+          line_at rows p,
+          row_lines line_at (rows ++ p ∷ []) with_plain.1,
+          with_plain.3 good,
+          behind_rows rows with_plain.1 p with_plain.0 with_plain.2,
+        );
         form = λ v line more e.
             let row = row_of rows all v line more e in
             (row.0, (EachRow-back Form [] rows (row.0 ∷ row.1) (subst P row.2 (kind.formed v))).0, row.3);
@@ -185,31 +196,41 @@ module _ {V R : Type 0} (lines : V → List Line) (Within : V → Type 0) (line_
   pub read_nothing : (old : Given) → HasRead old old []
   read_nothing old = record { formed = tt; fine = tt; gives = no_lines old }
 
-  pub read_more : (old mid new : Given) (rows : List R) (r : R) → HasRead old mid rows → Form rows r → Fine rows r → GivesLine mid new (line_at rows r) → HasRead old new (rows ++ r ∷ [])
+  pub read_more : (old mid new : Given) (rows : List R) (r : R) → HasRead old mid rows → Form rows r → Fine rows r → GivesLine mid new (line_at rows r) →
+      HasRead old new (rows ++ r ∷ [])
   read_more old mid new rows r so_far form fine gives =
       let P : List Line → Type 0 = λ ls. GivesLines old new ls new.rest in
       record {
         formed = EachRow-append Form [] rows (r ∷ []) so_far.formed (form, tt);
         fine = EachRow-append Fine [] rows (r ∷ []) so_far.fine (fine, tt);
-        gives = subst P (sym (row_lines-append line_at [] rows (r ∷ []))) (one_more_line old mid new (row_lines line_at [] rows) (line_at rows r) so_far.gives gives);
+        gives = subst P (sym (row_lines-append line_at [] rows (r ∷ [])))
+            (one_more_line old mid new (row_lines line_at [] rows) (line_at rows r) so_far.gives gives);
       }
 
-  pub read_refused : (old mid new : Given) (rows : List R) (n : ℕ) (e : TextError) → HasRead old mid rows → left rows ≡ suc n → IsRefusedLine (FormLine rows) (FineLine rows) mid new e → IsReading lines Within old new (Err e)
+  pub read_refused : (old mid new : Given) (rows : List R) (n : ℕ) (e : TextError) → HasRead old mid rows → left rows ≡ suc n →
+      IsRefusedLine (FormLine rows) (FineLine rows) mid new e → IsReading lines Within old new (Err e)
   read_refused old mid new rows n e so_far some refused =
-      refused_here lines Within (row_lines line_at [] rows) (FormLine rows) (FineLine rows) old mid new e (place_behind rows n so_far.formed so_far.fine some) so_far.gives refused
+      refused_here lines Within (row_lines line_at [] rows) (FormLine rows) (FineLine rows) old mid new e (place_behind rows n so_far.formed so_far.fine some)
+      so_far.gives refused
 
   pub read_whole : (old new : Given) (rows : List R) → HasRead old new rows → left rows ≡ 0 → Spells lines Within old new (value_of rows)
   read_whole old new rows so_far none =
       let P : List Line → Type 0 = λ ls. GivesLines old new ls new.rest in
-      let spelt : row_lines line_at [] rows ≡ lines (value_of rows) = ap (row_lines line_at []) (sym (kind.rows_again rows so_far.formed none)) ∙ sym (kind.spelt (value_of rows)) in
+      let spelt : row_lines line_at [] rows ≡ lines (value_of rows) = ap (row_lines line_at []) (sym (kind.rows_again rows so_far.formed none)) ∙
+      sym (kind.spelt (value_of rows)) in
       record { within = kind.within rows so_far.formed none so_far.fine; gives = subst P spelt so_far.gives }
 
 -- a line of a word and numbers that its reader refused
 pub numbers_refused : (word : List ℕ) (Form Fine : List ℕ → Type 0) (old new : Given) (e : TextError) → IsLine word Form Fine old new (Err e)
     → IsRefusedLine (λ line. (ns : List ℕ) × Form ns × (line ≡ line_of word ns)) (λ line. (ns : List ℕ) → Form ns → line ≡ line_of word ns → Fine ns) old new e
 numbers_refused word Form Fine old new (BadLine place) bad = (bad.line, bad.gives, λ has. bad.wrong has.0 has.1 has.2, bad.counted)
-numbers_refused word Form Fine old new (Limit place) beyond =
-    (line_of word beyond.numbers, beyond.gives, (beyond.numbers, beyond.form, refl), λ fine. beyond.outside (fine beyond.numbers beyond.form refl), beyond.counted)
+numbers_refused word Form Fine old new (Limit place) beyond = (
+  line_of word beyond.numbers,
+  beyond.gives,
+  (beyond.numbers, beyond.form, refl),
+  λ fine. beyond.outside (fine beyond.numbers beyond.form refl),
+  beyond.counted,
+)
 numbers_refused word Form Fine old new TooShort short = short
 numbers_refused word Form Fine old new (Trailing place) never = never
 numbers_refused word Form Fine old new Memory stopped = stopped

@@ -18,7 +18,8 @@ pub lacks_tail : (stop b : ℕ) (bs : List ℕ) → All (λ x. x ≡ stop → �
 lacks_tail stop b bs all k d h = all (suc k) d (omega arith)
 
 -- where two texts are the same, and a stop ends each first word, the words are the same
-pub same_word : (xs ys r s : List ℕ) → All (λ b. b ≡ 32 → ⊥) xs → All (λ b. b ≡ 32 → ⊥) ys → IsEndOrSpace r → IsEndOrSpace s → xs ++ r ≡ ys ++ s → (xs ≡ ys) × (r ≡ s)
+pub same_word : (xs ys r s : List ℕ) → All (λ b. b ≡ 32 → ⊥) xs → All (λ b. b ≡ 32 → ⊥) ys → IsEndOrSpace r → IsEndOrSpace s → xs ++ r ≡ ys ++ s →
+    (xs ≡ ys) × (r ≡ s)
 same_word [] [] r s no_x no_y end_r end_s e = (refl, e)
 same_word [] (y ∷ ys) r s no_x no_y (inl none) end_s e = let f : [] ≡ y ∷ (ys ++ s) = sym none ∙ e in absurd (cc)
 same_word [] (y ∷ ys) r s no_x no_y (inr (more, space)) end_s e = absurd (no_y 0 0 (omega arith) (ap (λ bs. get_or bs 0 0) (sym e ∙ space)))
@@ -41,7 +42,8 @@ first_number [] text word more ahead e = let f : 32 ∷ (word ++ more) ≡ [] = 
 first_number (m ∷ ms) text word more ahead e =
     let both : 32 ∷ (word ++ more) ≡ 32 ∷ (spelled m ++ numbers_text ms) = sym ahead.splits ∙ e in
     let tails : word ++ more ≡ spelled m ++ numbers_text ms = cc in
-    let parts = same_word word (spelled m) more (numbers_text ms) ahead.no_space (spelled_lacks 32 m (omega arith)) ahead.ends (numbers_end_or_space ms) tails in
+    let parts = same_word word (spelled m) more (numbers_text ms) ahead.no_space (spelled_lacks 32 m (omega arith)) ahead.ends (numbers_end_or_space ms)
+    tails in
     (m, ms, refl, parts.0, parts.1)
 
 word_ahead : (n : ℕ) (ns : List ℕ) → IsWordAhead (numbers_text (n ∷ ns)) (spelled n) (numbers_text ns)

@@ -1,5 +1,29 @@
 -- What the readers of one line cite: why a line is refused.
-use Rattle.std.proofs.Common.{◌≡◌, ℕ, ◌<◌, ◌≤◌, All, [], ◌∷◌, ◌++◌, drop, slice_index, refl, ◌∙◌, ap, sym, subst, arith, Bool, cond, ◌==◌, List, length, inl, inr}
+use Rattle.std.proofs.Common.{
+  ◌≡◌,
+  ℕ,
+  ◌<◌,
+  ◌≤◌,
+  All,
+  [],
+  ◌∷◌,
+  ◌++◌,
+  drop,
+  slice_index,
+  refl,
+  ◌∙◌,
+  ap,
+  sym,
+  subst,
+  arith,
+  Bool,
+  cond,
+  ◌==◌,
+  List,
+  length,
+  inl,
+  inr,
+}
 use Rattle.std.specs.Prelude.{Err}
 use Rattle.std.proofs.lemmas.List.{append-nil, append_cancel_left}
 use Rattle.std.proofs.lemmas.Bool.{cases_Bool, eqb-true, eqb-false}
@@ -24,7 +48,8 @@ wrong_count word count old new line ms place gives counted is other = record {
 }
 
 -- numbers that are not within the bounds: too great where their count is right
-pub great_is_refused : (word : List ℕ) (bounds : Bounds) (old new : Given) (line : Line) (ms : List ℕ) (count place : ℕ) (e : TextError) → GivesLine old new line → place ≡ new.given →
+pub great_is_refused : (word : List ℕ) (bounds : Bounds) (old new : Given) (line : Line) (ms : List ℕ) (count place : ℕ) (e : TextError) →
+    GivesLine old new line → place ≡ new.given →
     line ≡ line_of word ms → length ms ≡ count → (AreWithin bounds ms → ⊥) → e ≡ cond (count == bounds.most) (Limit place) (BadLine place) →
     IsLine word (λ ns. length ns ≡ bounds.most) (AreWithin bounds) old new (Err e)
 great_is_refused word bounds old new line ms count place e gives counted is long beyond says =
@@ -33,9 +58,17 @@ great_is_refused word bounds old new line ms count place e gives counted is long
     elim (cases_Bool (count == bounds.most)) [
       | inl yes_count ↦
           let gives_numbers : GivesLine old new (line_of word ms) = let R : Line → Type 0 = λ l. GivesLine old new l in subst R is gives in
-          subst P (sym says) (subst Q (sym yes_count) (record { numbers = ms; form = long ∙ eqb-true count bounds.most yes_count; outside = beyond; gives = gives_numbers; counted = counted }))
+          subst P (sym says) (subst Q (sym yes_count) (record {
+            numbers = ms;
+            form = long ∙ eqb-true count bounds.most yes_count;
+            outside = beyond;
+            gives =
+                gives_numbers;
+            counted = counted;
+          }))
       | inr no_count ↦
-          subst P (sym says) (subst Q (sym no_count) (wrong_count word bounds.most old new line ms place gives counted is (λ each. eqb-false count bounds.most no_count (sym long ∙ each))))
+          subst P (sym says) (subst Q (sym no_count)
+          (wrong_count word bounds.most old new line ms place gives counted is (λ each. eqb-false count bounds.most no_count (sym long ∙ each))))
     ]
 
 -- one number behind a word
@@ -46,7 +79,8 @@ behind_space : (text : List ℕ) → 0 < length text → slice_index text 0 ≡ 
 behind_space [] some first = absurd (omega arith)
 behind_space (b ∷ bs) some first = ap (λ x. x ∷ bs) first
 
-pub number_behind : (word line text : List ℕ) (greatest : ℕ) (r : Number) → line ≡ word ++ text → 0 < length text → slice_index text 0 ≡ 32 → IsReadAs (drop 1 text) greatest r → IsNumberBehind word line greatest r
+pub number_behind : (word line text : List ℕ) (greatest : ℕ) (r : Number) → line ≡ word ++ text → 0 < length text → slice_index text 0 ≡ 32 →
+    IsReadAs (drop 1 text) greatest r → IsNumberBehind word line greatest r
 number_behind word line text greatest Bad is some first read = λ n e.
     let tails : text ≡ 32 ∷ spelled n = append_cancel_left word text (32 ∷ spelled n) (sym is ∙ e ∙ one_number-line word n) in
     let digits : drop 1 text ≡ spelled n = ap (drop 1) tails in
@@ -57,7 +91,8 @@ number_behind word line text greatest (Value n) is some first read =
     (read.0, is ∙ ap (λ xs. word ++ xs) (behind_space text some first ∙ ap (λ xs. 32 ∷ xs) read.1) ∙ sym (one_number-line word n))
 
 -- no space behind the word
-pub no_space_behind : (word line text : List ℕ) → line ≡ word ++ text → (0 < length text → slice_index text 0 ≡ 32 → ⊥) → (n : ℕ) → line ≡ line_of word (n ∷ []) → ⊥
+pub no_space_behind : (word line text : List ℕ) → line ≡ word ++ text → (0 < length text → slice_index text 0 ≡ 32 → ⊥) → (n : ℕ) →
+    line ≡ line_of word (n ∷ []) → ⊥
 no_space_behind word line text is none n e =
     let tails : text ≡ 32 ∷ spelled n = append_cancel_left word text (32 ∷ spelled n) (sym is ∙ e ∙ one_number-line word n) in
     none (omega (arith, ap length tails)) (ap (λ xs. slice_index xs 0) tails)
@@ -67,7 +102,8 @@ only_number [] e = absurd (omega (arith, e))
 only_number (n ∷ []) e = (n, refl)
 only_number (n ∷ m ∷ ns) e = absurd (omega (arith, e))
 
-pub no_one_number : (word : List ℕ) (old new : Given) (line : Line) (place : ℕ) → GivesLine old new line → place ≡ new.given → ((n : ℕ) → line ≡ line_of word (n ∷ []) → ⊥) → IsBadLine word (λ ns. length ns ≡ 1) old new place
+pub no_one_number : (word : List ℕ) (old new : Given) (line : Line) (place : ℕ) → GivesLine old new line → place ≡ new.given →
+    ((n : ℕ) → line ≡ line_of word (n ∷ []) → ⊥) → IsBadLine word (λ ns. length ns ≡ 1) old new place
 no_one_number word old new line place gives counted bad = record {
   line = line;
   gives = gives;
@@ -75,7 +111,8 @@ no_one_number word old new line place gives counted bad = record {
   counted = counted;
 }
 
-pub great_number : (word : List ℕ) (greatest : ℕ) (old new : Given) (line : Line) (place n : ℕ) → GivesLine old new line → place ≡ new.given → greatest < n → line ≡ line_of word (n ∷ []) →
+pub great_number : (word : List ℕ) (greatest : ℕ) (old new : Given) (line : Line) (place n : ℕ) → GivesLine old new line → place ≡ new.given → greatest < n →
+    line ≡ line_of word (n ∷ []) →
     IsBeyond word (λ ns. length ns ≡ 1) (λ ns. All (λ n. n ≤ greatest) ns) old new place
 great_number word greatest old new line place n gives counted great is = record {
   numbers = n ∷ [];
@@ -93,7 +130,8 @@ no_numbers [] e = refl
 no_numbers (n ∷ ns) e = absurd (omega (arith, e))
 
 -- a line that is another than the word
-pub other_word : (word : List ℕ) (old new : Given) (line : Line) (place : ℕ) → GivesLine old new line → place ≡ new.given → (line ≡ word → ⊥) → IsBadLine word (λ ns. length ns ≡ 0) old new place
+pub other_word : (word : List ℕ) (old new : Given) (line : Line) (place : ℕ) → GivesLine old new line → place ≡ new.given → (line ≡ word → ⊥) →
+    IsBadLine word (λ ns. length ns ≡ 0) old new place
 other_word word old new line place gives counted other = record {
   line = line;
   gives = gives;
@@ -102,7 +140,8 @@ other_word word old new line place gives counted other = record {
 }
 
 -- a number below the least
-pub small_number : (word : List ℕ) (least greatest : ℕ) (old new : Given) (place n : ℕ) → GivesLine old new (line_of word (n ∷ [])) → place ≡ new.given → n < least →
+pub small_number : (word : List ℕ) (least greatest : ℕ) (old new : Given) (place n : ℕ) → GivesLine old new (line_of word (n ∷ [])) → place ≡ new.given →
+    n < least →
     IsBeyond word (λ ns. length ns ≡ 1) (λ ns. All (λ n. (least ≤ n) × (n ≤ greatest)) ns) old new place
 small_number word least greatest old new place n gives counted small = record {
   numbers = n ∷ [];

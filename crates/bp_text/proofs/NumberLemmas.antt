@@ -1,5 +1,39 @@
 -- Numbers and their digits.
-use Rattle.std.proofs.Common.{◌≡◌, ℕ, zero, suc, ◌+◌, ◌-◌, ◌*◌, ◌/◌, ◌%◌, ◌^◌, ◌<◌, ◌≤◌, ap, subst, ◌∙◌, sym, refl, arith, List, [], ◌∷◌, ◌++◌, length, map, take, get_or, slice_index, Option, Some, None, inl, inr, length-append}
+use Rattle.std.proofs.Common.{
+  ◌≡◌,
+  ℕ,
+  zero,
+  suc,
+  ◌+◌,
+  ◌-◌,
+  ◌*◌,
+  ◌/◌,
+  ◌%◌,
+  ◌^◌,
+  ◌<◌,
+  ◌≤◌,
+  ap,
+  subst,
+  ◌∙◌,
+  sym,
+  refl,
+  arith,
+  List,
+  [],
+  ◌∷◌,
+  ◌++◌,
+  length,
+  map,
+  take,
+  get_or,
+  slice_index,
+  Option,
+  Some,
+  None,
+  inl,
+  inr,
+  length-append,
+}
 use Rattle.std.specs.Fmt.{decimal}
 use Rattle.std.specs.Int.Digits.{digits_of, number_from_digits, number_from_digits_after, AllBelowBase}
 use Rattle.std.proofs.Math.ListN.{length-map}
@@ -29,18 +63,21 @@ spelled-small (suc m) h =
     let n = suc m in
     let none : n / 10 ≡ 0 = omega arith in
     let only : n % 10 ≡ n = omega arith in
-    spelled-positive n (omega arith) ∙ ap (map (λ d. 48 + d)) (digits_of_step 10 n (omega arith) (omega arith) ∙ ap (λ q. digits_of 10 q ++ (n % 10) ∷ []) none ∙ ap (λ d. d ∷ []) only)
+    spelled-positive n (omega arith) ∙
+    ap (map (λ d. 48 + d)) (digits_of_step 10 n (omega arith) (omega arith) ∙ ap (λ q. digits_of 10 q ++ (n % 10) ∷ []) none ∙ ap (λ d. d ∷ []) only)
 
 pub spelled-step : (n : ℕ) → 10 ≤ n → spelled n ≡ spelled (n / 10) ++ (48 + n % 10) ∷ []
 spelled-step n h =
     let some : 0 < n / 10 = omega arith in
     let digits = digits_of_step 10 n (omega arith) (omega arith) in
-    spelled-positive n (omega arith) ∙ ap (map (λ d. 48 + d)) digits ∙ map-append (λ d. 48 + d) (digits_of 10 (n / 10)) ((n % 10) ∷ []) ∙ ap (λ xs. xs ++ (48 + n % 10) ∷ []) (sym (spelled-positive (n / 10) some))
+    spelled-positive n (omega arith) ∙ ap (map (λ d. 48 + d)) digits ∙ map-append (λ d. 48 + d) (digits_of 10 (n / 10)) ((n % 10) ∷ []) ∙
+    ap (λ xs. xs ++ (48 + n % 10) ∷ []) (sym (spelled-positive (n / 10) some))
 
 -- the digits behind the bytes, and the bytes of the digits
 digits_of_bytes : (ds : List ℕ) → map (λ b. b - 48) (map (λ d. 48 + d) ds) ≡ ds
 digits_of_bytes [] = refl
-digits_of_bytes (d ∷ ds) = let here : (48 + d) - 48 ≡ d = omega arith in ap (λ x. x ∷ map (λ b. b - 48) (map (λ d. 48 + d) ds)) here ∙ ap (λ xs. d ∷ xs) (digits_of_bytes ds)
+digits_of_bytes (d ∷ ds) = let here : (48 + d) - 48 ≡ d = omega arith in
+    ap (λ x. x ∷ map (λ b. b - 48) (map (λ d. 48 + d) ds)) here ∙ ap (λ xs. d ∷ xs) (digits_of_bytes ds)
 
 -- each byte is a digit
 abbrev pub AreDigits : List ℕ → Type 0
@@ -110,7 +147,8 @@ spelled_injective (suc m) (suc n) e =
     let some : 0 < suc m = omega arith in
     let also : 0 < suc n = omega arith in
     same_from_digits_of 10 (suc m) (suc n) (omega arith)
-    (sym (digits_of_bytes (digits_of 10 (suc m))) ∙ ap (map (λ b. b - 48)) (sym (spelled-positive (suc m) some) ∙ e ∙ spelled-positive (suc n) also) ∙ digits_of_bytes (digits_of 10 (suc n)))
+    (sym (digits_of_bytes (digits_of 10 (suc m))) ∙ ap (map (λ b. b - 48)) (sym (spelled-positive (suc m) some) ∙ e ∙ spelled-positive (suc n) also) ∙
+    digits_of_bytes (digits_of 10 (suc n)))
 
 -- the digits of the number that digits write, where the first is not 0
 digits_again : (ds : List ℕ) (k : ℕ) → AllBelowBase 10 ds → 0 < get_or ds 0 0 → k ≤ length ds →
@@ -130,7 +168,8 @@ digits_again ds (suc k) all first h =
     ] in
     let front : n / 10 ≡ m = omega (arith, more, small) in
     let last : n % 10 ≡ d = omega (arith, more, small) in (
-      digits_of_step 10 n (omega arith) some ∙ ap (λ q. digits_of 10 q ++ (n % 10) ∷ []) front ∙ ap (λ x. digits_of 10 m ++ x ∷ []) last ∙ ap (λ xs. xs ++ d ∷ []) before.0 ∙ sym (take_more ds k 0 (omega arith)) ∙ ap (λ (i : ℕ). take i ds) next,
+      digits_of_step 10 n (omega arith) some ∙ ap (λ q. digits_of 10 q ++ (n % 10) ∷ []) front ∙ ap (λ x. digits_of 10 m ++ x ∷ []) last ∙
+          ap (λ xs. xs ++ d ∷ []) before.0 ∙ sym (take_more ds k 0 (omega arith)) ∙ ap (λ (i : ℕ). take i ds) next,
       λ l. some,
     )
 
@@ -144,7 +183,8 @@ word_is_spelled (b ∷ bs) first digits =
     let whole : take (length ds) ds ≡ ds = take_all (length ds) ds (omega arith) in
     let again = digits_again ds (length ds) (bytes_below_base word digits) start (omega arith) in
     let some : 0 < number_from_digits 10 ds = omega (arith, again.1 (omega arith), ap (number_from_digits 10) whole) in
-    sym (spelled-positive (number_from_digits 10 ds) some ∙ ap (map (λ d. 48 + d)) (ap (λ xs. digits_of 10 (number_from_digits 10 xs)) (sym whole) ∙ again.0 ∙ whole) ∙ bytes_of_digits word digits)
+    sym (spelled-positive (number_from_digits 10 ds) some ∙
+    ap (map (λ d. 48 + d)) (ap (λ xs. digits_of 10 (number_from_digits 10 xs)) (sym whole) ∙ again.0 ∙ whole) ∙ bytes_of_digits word digits)
 
 -- what std writes for a number
 pub spelled-decimal : (n : ℕ) → n < 10 ^ 64 → spelled n ≡ decimal n
@@ -156,7 +196,8 @@ spelled-decimal n h =
 abbrev pub IsSoFar : ℕ → Option ℕ → ℕ → Type 0
 IsSoFar greatest value n = MatchOption value (greatest < n) (λ v. (v ≡ n) × (v ≤ greatest))
 
-pub digit_more : (greatest digit n next : ℕ) (value result : Option ℕ) → next ≡ n * 10 + digit → IsGreaterBy value digit greatest result → IsSoFar greatest value n → IsSoFar greatest result next
+pub digit_more : (greatest digit n next : ℕ) (value result : Option ℕ) → next ≡ n * 10 + digit → IsGreaterBy value digit greatest result →
+    IsSoFar greatest value n → IsSoFar greatest result next
 digit_more greatest digit n next None None e by so_far = omega (arith, e, so_far)
 digit_more greatest digit n next None (Some r) e by so_far = absurd by
 digit_more greatest digit n next (Some v) None e by so_far =
@@ -168,14 +209,16 @@ digit_more greatest digit n next (Some v) (Some r) e by so_far = (omega (arith, 
 
 -- digits by their places, and the number that they write, are those of std
 digits_model : IsNumeralModel AreDigits (λ ds. number_from_digits 10 (map (λ b. b - 48) ds))
-digits_model = numerals_by_fold AreDigits tells_by_index (λ n ds. number_from_digits_after 10 n (map (λ b. b - 48) ds)) (record { empty = λ n. refl; more = λ n c cs h. refl })
+digits_model = numerals_by_fold AreDigits tells_by_index (λ n ds. number_from_digits_after 10 n (map (λ b. b - 48) ds))
+    (record { empty = λ n. refl; more = λ n c cs h. refl })
 
 -- what is not all digits: a byte in it is none
 pub no_digit : (bytes : List ℕ) (k : ℕ) → k < length bytes → ((48 ≤ slice_index bytes k) × (slice_index bytes k ≤ 57) → ⊥) → AllDigits 10 bytes → ⊥
 no_digit bytes k in_range bad all = bad (digits_model.from bytes all k in_range)
 
 -- a word of digits that has no zero before its number is the spelling of it
-pub word_of_digits : (word : List ℕ) → 0 < length word → (1 < length word → slice_index word 0 ≡ 48 → ⊥) → AreDigits word → word ≡ spelled (number_from_digits 10 (map (λ b. b - 48) word))
+pub word_of_digits : (word : List ℕ) → 0 < length word → (1 < length word → slice_index word 0 ≡ 48 → ⊥) → AreDigits word →
+    word ≡ spelled (number_from_digits 10 (map (λ b. b - 48) word))
 word_of_digits [] some first digits = absurd (omega arith)
 word_of_digits (b ∷ []) some first digits =
     let here = digits 0 (omega arith) in
@@ -198,7 +241,8 @@ pub nothing_is_no_number : (word : List ℕ) → length word ≡ 0 → (n : ℕ)
 nothing_is_no_number word none n e = omega (arith, spelled_is_some n, ap length e, none)
 
 -- what is read of digits once each of them was seen
-pub digits_are_read : (bytes : List ℕ) (greatest i : ℕ) (value : Option ℕ) → length bytes ≤ i → ((k : ℕ) → k < i → (48 ≤ slice_index bytes k) × (slice_index bytes k ≤ 57))
+pub digits_are_read : (bytes : List ℕ) (greatest i : ℕ) (value : Option ℕ) → length bytes ≤ i →
+    ((k : ℕ) → k < i → (48 ≤ slice_index bytes k) × (slice_index bytes k ≤ 57))
     → IsSoFar greatest value (number_from_digits 10 (take i (map (λ b. b - 48) bytes)))
     → MatchOption value (AllDigits 10 bytes × (greatest < digits_value 10 bytes)) (λ n. AllDigits 10 bytes × (n ≡ digits_value 10 bytes) × (n ≤ greatest))
 digits_are_read bytes greatest i value past digits so_far =
@@ -207,14 +251,17 @@ digits_are_read bytes greatest i value past digits so_far =
     let all : AllDigits 10 bytes = digits_model.to bytes (λ k h. digits k (omega arith)) in
     by_value value (let P : List ℕ → Type 0 = λ xs. IsSoFar greatest value (number_from_digits 10 xs) in subst P whole so_far) all (digits_model.same bytes all)
   where
-    by_value : (value : Option ℕ) → IsSoFar greatest value (number_from_digits 10 (map (λ b. b - 48) bytes)) → AllDigits 10 bytes → number_from_digits 10 (map (λ b. b - 48) bytes) ≡ digits_value 10 bytes
+    by_value : (value : Option ℕ) → IsSoFar greatest value (number_from_digits 10 (map (λ b. b - 48) bytes)) → AllDigits 10 bytes →
+        number_from_digits 10 (map (λ b. b - 48) bytes) ≡ digits_value 10 bytes
         → MatchOption value (AllDigits 10 bytes × (greatest < digits_value 10 bytes)) (λ n. AllDigits 10 bytes × (n ≡ digits_value 10 bytes) × (n ≤ greatest))
     by_value None so_far all same = (all, omega (arith, so_far, same))
     by_value (Some n) so_far all same = (all, so_far.0 ∙ same, so_far.1)
 
 -- a word that has no zero before its number is read as its digits are
-pub word_is_read : (word : List ℕ) (greatest : ℕ) (r : Number) → 0 < length word → (1 < length word → slice_index word 0 ≡ 48 → ⊥) → AreReadAs word greatest r → IsReadAs word greatest r
-word_is_read word greatest Bad some first bad = λ n e. let P : List ℕ → Type 0 = λ w. AreDigits w in bad (digits_model.to word (subst P (sym e) (spelled_is_digits n)))
+pub word_is_read : (word : List ℕ) (greatest : ℕ) (r : Number) → 0 < length word → (1 < length word → slice_index word 0 ≡ 48 → ⊥) →
+    AreReadAs word greatest r → IsReadAs word greatest r
+word_is_read word greatest Bad some first bad = λ n e. let P : List ℕ → Type 0 = λ w. AreDigits w in
+    bad (digits_model.to word (subst P (sym e) (spelled_is_digits n)))
 word_is_read word greatest Great some first (all, above) =
     (digits_value 10 word, above, word_of_digits word some first (digits_model.from word all) ∙ ap spelled (digits_model.same word all))
 word_is_read word greatest (Value n) some first (all, is, small) =

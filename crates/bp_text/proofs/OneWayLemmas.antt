@@ -1,5 +1,29 @@
 -- Bytes are read as a text in one way: they part from a kind once, and each answer says how. A law on a kind cites `one_way`.
-use Rattle.std.proofs.Common.{◌≡◌, ◌≢◌, ◌⊎◌, ℕ, ◌+◌, ◌<◌, ◌≤◌, refl, ap, sym, subst, ◌∙◌, arith, List, [], ◌∷◌, ◌++◌, length, All, append_assoc, length-append, inl, inr}
+use Rattle.std.proofs.Common.{
+  ◌≡◌,
+  ◌≢◌,
+  ◌⊎◌,
+  ℕ,
+  ◌+◌,
+  ◌<◌,
+  ◌≤◌,
+  refl,
+  ap,
+  sym,
+  subst,
+  ◌∙◌,
+  arith,
+  List,
+  [],
+  ◌∷◌,
+  ◌++◌,
+  length,
+  All,
+  append_assoc,
+  length-append,
+  inl,
+  inr,
+}
 use Rattle.std.specs.Prelude.{Result, Ok, Err}
 use Rattle.std.proofs.lemmas.Bool.{cases_lt}
 use Rattle.std.proofs.lemmas.List.{append-nil}
@@ -87,7 +111,8 @@ module _ {V : Type 0} (lines : V → List Line) (Within : V → Type 0) (s : IsS
     where
       split_last : (front : List Line) (line : Line) (rest : List ℕ) → text_of (front ++ line ∷ []) ++ rest ≡ text_of front ++ (line ++ 10 ∷ rest)
       split_last [] line rest = append_assoc (line ++ 10 ∷ []) [] rest ∙ append_assoc line (10 ∷ []) rest
-      split_last (f ∷ front) line rest = append_assoc (f ++ 10 ∷ []) (text_of (front ++ line ∷ [])) rest ∙ ap (λ t. (f ++ 10 ∷ []) ++ t) (split_last front line rest) ∙ sym (append_assoc (f ++ 10 ∷ []) (text_of front) (line ++ 10 ∷ rest))
+      split_last (f ∷ front) line rest = append_assoc (f ++ 10 ∷ []) (text_of (front ++ line ∷ [])) rest ∙
+          ap (λ t. (f ++ 10 ∷ []) ++ t) (split_last front line rest) ∙ sym (append_assoc (f ++ 10 ∷ []) (text_of front) (line ++ 10 ∷ rest))
 
   whole_short : (v : V) (r : List ℕ) → IsWhole v r → IsShort → ⊥
   whole_short v r a b =
@@ -105,9 +130,16 @@ module _ {V : Type 0} (lines : V → List Line) (Within : V → Type 0) (s : IsS
       ]
 
   -- a broken line is not among right ones
-  broken_inside : (front : List Line) (line : Line) (other : List Line) → IsBroken front line → Begins lines Within other → (more : List Line) → other ≡ (front ++ line ∷ []) ++ more → ⊥
+  broken_inside : (front : List Line) (line : Line) (other : List Line) → IsBroken front line → Begins lines Within other → (more : List Line) →
+      other ≡ (front ++ line ∷ []) ++ more → ⊥
   broken_inside front line other b begins more e =
-      b.wrong (begins.0, more ++ begins.1 ∷ begins.2, begins.3, begins.4 ∙ ap (λ ls. ls ++ begins.1 ∷ begins.2) (e ∙ append_assoc front (line ∷ []) more) ∙ append_assoc front (line ∷ more) (begins.1 ∷ begins.2))
+      b.wrong (
+        begins.0,
+        more ++ begins.1 ∷ begins.2,
+        begins.3,
+        begins.4 ∙ ap (λ ls. ls ++ begins.1 ∷ begins.2) (e ∙ append_assoc front (line ∷ []) more) ∙
+            append_assoc front (line ∷ more) (begins.1 ∷ begins.2),
+      )
 
   broken_short : (front : List Line) (line : Line) → IsBroken front line → IsShort → ⊥
   broken_short front line b h =
@@ -213,8 +245,10 @@ module _ {V : Type 0} (lines : V → List Line) (Within : V → Type 0) (s : IsS
         record { rest = h.0.rest; begins = b.begins; wrong = b.outside; no_end = b.no_end; splits = b.gives.splits },
         inr (b.form, ap (λ n. Err (Limit n)) (place_of b.front b.line h.0.given place b.counted b.gives.given)),
       )
-  parting (Err TooShort) memory h = (Short, record { front = h.1.front; rest = h.0.rest; begins = h.1.begins; no_end = h.1.no_end; splits = h.1.gives.splits }, refl)
-  parting (Err (Trailing place)) memory h = (Whole h.value (h.byte ∷ h.more), record { within = h.within; splits = h.trails }, ap (λ n. Err (Trailing n)) h.counted)
+  parting (Err TooShort) memory h =
+      (Short, record { front = h.1.front; rest = h.0.rest; begins = h.1.begins; no_end = h.1.no_end; splits = h.1.gives.splits }, refl)
+  parting (Err (Trailing place)) memory h =
+      (Whole h.value (h.byte ∷ h.more), record { within = h.within; splits = h.trails }, ap (λ n. Err (Trailing n)) h.counted)
   parting (Err Memory) memory h = absurd (memory refl)
 
   one_answer : (a b : Result V TextError) → a ≢ Err Memory → b ≢ Err Memory → IsText lines Within bytes a → IsText lines Within bytes b → a ≡ b

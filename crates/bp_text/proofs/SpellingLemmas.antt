@@ -30,7 +30,8 @@ text_cons : (x : Line) (xs : List Line) (r : List ℕ) → text_of (x ∷ xs) ++
 text_cons x xs r = append_assoc (x ++ 10 ∷ []) (text_of xs) r ∙ append_assoc x (10 ∷ []) (text_of xs ++ r)
 
 -- of two lists of lines before the same bytes, the shorter begins the longer
-pub same_lines : (xs ys : List Line) (r s : List ℕ) → All HasNoEnd xs → All HasNoEnd ys → text_of xs ++ r ≡ text_of ys ++ s → length xs ≤ length ys → (rest : List Line) × (ys ≡ xs ++ rest) × (r ≡ text_of rest ++ s)
+pub same_lines : (xs ys : List Line) (r s : List ℕ) → All HasNoEnd xs → All HasNoEnd ys → text_of xs ++ r ≡ text_of ys ++ s → length xs ≤ length ys →
+    (rest : List Line) × (ys ≡ xs ++ rest) × (r ≡ text_of rest ++ s)
 same_lines [] ys r s no_x no_y e short = (ys, refl, e)
 same_lines (x ∷ xs) [] r s no_x no_y e short = absurd (omega arith)
 same_lines (x ∷ xs) (y ∷ ys) r s no_x no_y e short =
@@ -48,7 +49,8 @@ end_stands (x ∷ xs) s none = absurd (at_end x (text_of xs ++ s) (let P : List 
     at_end (b ∷ bs) more none = at_end bs more (lacks_tail b (bs ++ 10 ∷ more) none)
 
 -- lines that begin a text are not behind a whole one
-pub not_behind : {V : Type 0} (lines : V → List Line) (Within : V → Type 0) (front : List Line) → IsSpelling lines → Begins lines Within front → (v : V) (rest : List Line) → front ≡ lines v ++ rest → ⊥
+pub not_behind : {V : Type 0} (lines : V → List Line) (Within : V → Type 0) (front : List Line) → IsSpelling lines → Begins lines Within front →
+    (v : V) (rest : List Line) → front ≡ lines v ++ rest → ⊥
 not_behind lines Within front s b v rest e =
     let whole : lines b.0 ≡ lines v ++ (rest ++ b.1 ∷ b.2) = b.4 ∙ ap (λ ls. ls ++ b.1 ∷ b.2) e ∙ append_assoc (lines v) rest (b.1 ∷ b.2) in
     let none = (s.alone v b.0 (rest ++ b.1 ∷ b.2) whole).1 in
@@ -66,7 +68,8 @@ pub prefix_free : {V : Type 0} (lines : V → List Line) → IsSpelling lines �
 prefix_free lines s v w byte rest e =
     let f : text_of (lines w) ++ [] ≡ text_of (lines v) ++ byte ∷ rest = append-nil (text_of (lines w)) ∙ e in
     elim (cases_lt (length (lines w)) (length (lines v))) [
-      | inl shorter ↦ let more = same_lines (lines w) (lines v) [] (byte ∷ rest) (s.no_ends w) (s.no_ends v) f (omega arith) in absurd (omega (arith, ap length more.2, length-append (text_of more.0) (byte ∷ rest)))
+      | inl shorter ↦ let more = same_lines (lines w) (lines v) [] (byte ∷ rest) (s.no_ends w) (s.no_ends v) f (omega arith) in
+          absurd (omega (arith, ap length more.2, length-append (text_of more.0) (byte ∷ rest)))
       | inr longer ↦
           let more = same_lines (lines v) (lines w) (byte ∷ rest) [] (s.no_ends v) (s.no_ends w) (sym f) longer in
           let none = (s.alone v w more.0 more.1).1 in

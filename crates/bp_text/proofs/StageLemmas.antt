@@ -23,23 +23,28 @@ pub no_lines : (old : Given) → GivesLines old old [] old.rest
 no_lines old = record { bytes = refl; given = omega arith; splits = refl }
 
 -- lines, and then one more
-pub one_more_line : (old mid new : Given) (front : List Line) (line : Line) → GivesLines old mid front mid.rest → GivesLine mid new line → GivesLines old new (front ++ line ∷ []) new.rest
+pub one_more_line : (old mid new : Given) (front : List Line) (line : Line) → GivesLines old mid front mid.rest → GivesLine mid new line →
+    GivesLines old new (front ++ line ∷ []) new.rest
 one_more_line old mid new front line before gives = record {
   bytes = gives.bytes ∙ before.bytes;
   given = omega (arith, gives.given, before.given, length-append front (line ∷ []));
-  splits = before.splits ∙ ap (λ xs. text_of front ++ xs) (gives.rest ∙ sym (text_of-one line new.rest)) ∙ sym (append_assoc (text_of front) (text_of (line ∷ [])) new.rest) ∙ ap (λ xs. xs ++ new.rest) (sym (text_of-append front (line ∷ [])));
+  splits = before.splits ∙ ap (λ xs. text_of front ++ xs) (gives.rest ∙ sym (text_of-one line new.rest)) ∙
+      sym (append_assoc (text_of front) (text_of (line ∷ [])) new.rest) ∙ ap (λ xs. xs ++ new.rest) (sym (text_of-append front (line ∷ [])));
 }
 
 -- lines, and then more of them
-pub more_lines : (old mid new : Given) (front lines : List Line) → GivesLines old mid front mid.rest → GivesLines mid new lines new.rest → GivesLines old new (front ++ lines) new.rest
+pub more_lines : (old mid new : Given) (front lines : List Line) → GivesLines old mid front mid.rest → GivesLines mid new lines new.rest →
+    GivesLines old new (front ++ lines) new.rest
 more_lines old mid new front lines before gives = record {
   bytes = gives.bytes ∙ before.bytes;
   given = omega (arith, gives.given, before.given, length-append front lines);
-  splits = before.splits ∙ ap (λ xs. text_of front ++ xs) gives.splits ∙ sym (append_assoc (text_of front) (text_of lines) new.rest) ∙ ap (λ xs. xs ++ new.rest) (sym (text_of-append front lines));
+  splits = before.splits ∙ ap (λ xs. text_of front ++ xs) gives.splits ∙ sym (append_assoc (text_of front) (text_of lines) new.rest) ∙
+      ap (λ xs. xs ++ new.rest) (sym (text_of-append front lines));
 }
 
 -- a refusal of the line at a place is one of the text
-pub refused_here : {V : Type 0} (lines : V → List Line) (Within : V → Type 0) (front : List Line) (Form Fine : Line → Type 0) (old mid new : Given) (e : TextError) →
+pub refused_here : {V : Type 0} (lines : V → List Line) (Within : V → Type 0) (front : List Line) (Form Fine : Line →
+    Type 0) (old mid new : Given) (e : TextError) →
     IsPlace lines Within front Form Fine → GivesLines old mid front mid.rest → IsRefusedLine Form Fine mid new e → IsReading lines Within old new (Err e)
 refused_here lines Within front Form Fine old mid new (BadLine place) stage before bad = record {
   front = front;
@@ -65,8 +70,11 @@ refused_here lines Within front Form Fine old mid new TooShort stage before shor
     subst P (sym short.0) (record { front = front; begins = stage.begins; gives = before; no_end = short.1 })
 refused_here lines Within front Form Fine old mid new (Trailing place) stage before never = never
 refused_here lines Within front Form Fine old mid new Memory stage before stopped =
-    let none = no_end_in_front lines Within front stage.no_ends stage.begins in
-    (front ++ stopped.0 ∷ [], All-append HasNoEnd front (stopped.0 ∷ []) none (one_line stopped.0 stopped.1.no_end), one_more_line old mid new front stopped.0 before stopped.1)
+    let none = no_end_in_front lines Within front stage.no_ends stage.begins in (
+      front ++ stopped.0 ∷ [],
+      All-append HasNoEnd front (stopped.0 ∷ []) none (one_line stopped.0 stopped.1.no_end),
+      one_more_line old mid new front stopped.0 before stopped.1,
+    )
 
 -- behind these lines a text goes on with a word and numbers in a form, and within the limits they are fine
 pub record IsStage {V : Type 0} (lines : V → List Line) (Within : V → Type 0) (front : List Line) (word : List ℕ) (Form Fine : List ℕ → Type 0) : Type 0 where
@@ -77,15 +85,18 @@ pub record IsStage {V : Type 0} (lines : V → List Line) (Within : V → Type 0
   pub fine : (v : V) (ns : List ℕ) (more : List Line) → Within v → Form ns → lines v ≡ front ++ line_of word ns ∷ more → Fine ns
 
 -- so where memory was wanted behind the line, the lines so far were given
-pub stopped_at : {V : Type 0} (lines : V → List Line) (Within : V → Type 0) (front : List Line) (word : List ℕ) (Form Fine : List ℕ → Type 0) (old mid new : Given) (line : Line) →
+pub stopped_at : {V : Type 0} (lines : V → List Line) (Within : V → Type 0) (front : List Line) (word : List ℕ) (Form Fine : List ℕ →
+    Type 0) (old mid new : Given) (line : Line) →
     IsStage lines Within front word Form Fine → GivesLines old mid front mid.rest → GivesLine mid new line → IsReading lines Within old new (Err Memory)
 stopped_at lines Within front word Form Fine old mid new line stage before gives =
     let none = no_end_in_front lines Within front stage.no_ends stage.begins in
     (front ++ line ∷ [], All-append HasNoEnd front (line ∷ []) none (one_line line gives.no_end), one_more_line old mid new front line before gives)
 
 -- so a refusal of the line is one of the text
-pub refused_at : {V : Type 0} (lines : V → List Line) (Within : V → Type 0) (front : List Line) (word : List ℕ) (Form Fine : List ℕ → Type 0) (old mid new : Given) (e : TextError) →
-    IsStage lines Within front word Form Fine → GivesLines old mid front mid.rest → IsLine word Form Fine mid new (Err e) → IsReading lines Within old new (Err e)
+pub refused_at : {V : Type 0} (lines : V → List Line) (Within : V → Type 0) (front : List Line) (word : List ℕ) (Form Fine : List ℕ →
+    Type 0) (old mid new : Given) (e : TextError) →
+    IsStage lines Within front word Form Fine → GivesLines old mid front mid.rest → IsLine word Form Fine mid new (Err e) →
+    IsReading lines Within old new (Err e)
 refused_at lines Within front word Form Fine old mid new (BadLine place) stage before bad = record {
   front = front;
   line = bad.line;
@@ -109,4 +120,5 @@ refused_at lines Within front word Form Fine old mid new TooShort stage before s
     let P : Given → Type 0 = λ g. EndsShort lines Within old g in
     subst P (sym short.0) (record { front = front; begins = stage.begins; gives = before; no_end = short.1 })
 refused_at lines Within front word Form Fine old mid new (Trailing place) stage before never = never
-refused_at lines Within front word Form Fine old mid new Memory stage before stopped = stopped_at lines Within front word Form Fine old mid new stopped.0 stage before stopped.1
+refused_at lines Within front word Form Fine old mid new Memory stage before stopped =
+    stopped_at lines Within front word Form Fine old mid new stopped.0 stage before stopped.1

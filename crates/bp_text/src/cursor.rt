@@ -41,7 +41,8 @@ impl<'a> Lines<'a> {
 
     /// The next line, without its end, where it has one.
     pub fn take_line(&mut self) -> Option<&'a [u8]>
-        ensures { MatchOption result ((self.new ≡ self.old) × HasNoEnd self.old.rest) (λ line. GivesLine self.old self.new line.now) }
+        ensures { MatchOption result ((self.new ≡ self.old) ×
+            HasNoEnd self.old.rest) (λ line. GivesLine self.old self.new line.now) }
     {
         let length = length_to(self.rest, LINE_END);
         if length == self.rest.len() {

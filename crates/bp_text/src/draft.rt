@@ -86,7 +86,8 @@ impl Draft {
 
     /// Puts numbers behind the draft, each behind one space.
     pub fn push_numbers<K: Sink>(&mut self, numbers: &[u64], out: &mut K) -> Result<(), WriteError>
-        ensures writes { Drafts (K.written out.old) (K.written out.new) self.old self.new (numbers_text numbers.now) result }
+        ensures writes { Drafts (K.written out.old) (K.written out.new) self.old self.new (numbers_text numbers.now)
+            result }
         ensures failed { IsErrOf result WriteError.Failed → Rose (K.faults out.old) (K.faults out.new) }
         ensures unfailing { K.steady out.old → ¬ IsErrOf result WriteError.Failed }
         ensures steady { K.steady out.old → K.steady out.new }
@@ -105,7 +106,8 @@ impl Draft {
         numbers: &[u64],
         out: &mut K,
     ) -> Result<(), WriteError>
-        ensures writes { Drafts (K.written out.old) (K.written out.new) self.old self.new (text_of (line_of word.now numbers.now ∷ [])) result }
+        ensures writes { Drafts (K.written out.old) (K.written out.new) self.old self.new
+            (text_of (line_of word.now numbers.now ∷ [])) result }
         ensures failed { IsErrOf result WriteError.Failed → Rose (K.faults out.old) (K.faults out.new) }
         ensures unfailing { K.steady out.old → ¬ IsErrOf result WriteError.Failed }
         ensures steady { K.steady out.old → K.steady out.new }
@@ -123,7 +125,8 @@ impl Draft {
         number: u128,
         out: &mut K,
     ) -> Result<(), WriteError>
-        ensures writes { Drafts (K.written out.old) (K.written out.new) self.old self.new (text_of (line_of word.now (number ∷ []) ∷ [])) result }
+        ensures writes { Drafts (K.written out.old) (K.written out.new) self.old self.new
+            (text_of (line_of word.now (number ∷ []) ∷ [])) result }
         ensures failed { IsErrOf result WriteError.Failed → Rose (K.faults out.old) (K.faults out.new) }
         ensures unfailing { K.steady out.old → ¬ IsErrOf result WriteError.Failed }
         ensures steady { K.steady out.old → K.steady out.new }

@@ -1,6 +1,7 @@
 //! Texts of lines: each line is a word and numbers, apart by one space, and ends with the byte 10.
 //!
-//! To read: `Lines` gives the lines of a text one by one, the readers of `read` take the next one in a form, and `Words`
+//! To read: `Lines` gives the lines of a text one by one, the readers of `read` take the next one in a form, and
+//! `Words`
 //! splits a line where several forms may stand. `number` and `digits` read a number.
 //!
 //! To write: the spellers put numbers and lines at the end of a `Vec`, and `write_text` hands it to a sink in pieces; a
@@ -10,8 +11,18 @@
 //!     draft.push_line(b"nights", &[365], out)?;            // behind the draft, or written once that is full
 //!     draft.hand_on(out)                                   // what is left
 //!
-//! A new kind of text says which lines spell a value, and which values are within the limits. What its reader answers is
+//! A new kind of text says which lines spell a value, and which values are within the limits. What its reader answers
+//! is
 //! then `IsText` (`specs/Reading.antt`), and what its proofs cite stands at the head of `proofs/Lib.antt`.
+//!
+//! The words of a line, one by one, numbers up to a greatest among them.
+//!
+//! ```
+//! let mut words = Words::new(b"3 book 12 ");
+//! assert!(rt; words.number(9).map(|counted| counted.value) == Some(3));
+//! assert!(rt; words.next() == Some(b"book".as_slice()));
+//! assert!(rt; words.number(11).map(|counted| counted.great) == Some(true));
+//! ```
 #![tactic(auto)]
 
 mod cursor;

@@ -1,5 +1,21 @@
 //! The numbers behind a word on a line, found from left to right.
-ghost use Rattle.std.specs.Prelude.{◌≡◌, ◌≢◌, ℕ, ◌+◌, ◌<◌, ◌≤◌, ◌++◌, ◌∷◌, [], List, length, slice_index, MatchOption, IfOk, OnOk};
+ghost use Rattle.std.specs.Prelude.{
+  ◌≡◌,
+  ◌≢◌,
+  ℕ,
+  ◌+◌,
+  ◌<◌,
+  ◌≤◌,
+  ◌++◌,
+  ◌∷◌,
+  [],
+  List,
+  length,
+  slice_index,
+  MatchOption,
+  IfOk,
+  OnOk,
+};
 ghost use Rattle.bp_text.specs.Lines.{line_of, numbers_text};
 ghost use Rattle.bp_text.specs.Forms.{IsFound, IsWordAhead, IsKept};
 
@@ -27,7 +43,8 @@ pub(crate) fn numbers_behind(
 
 /// What stands behind a word, where the line begins with it.
 pub(crate) fn behind<'a>(word: &[u8], line: &'a [u8]) -> Option<&'a [u8]>
-    ensures { MatchOption result ((rest : List ℕ) → line.now ≢ word.now ++ rest) (λ rest. line.now ≡ word.now ++ rest.now) }
+    ensures { MatchOption result ((rest : List ℕ) →
+        line.now ≢ word.now ++ rest) (λ rest. line.now ≡ word.now ++ rest.now) }
 {
     line.strip_prefix(word)
 }

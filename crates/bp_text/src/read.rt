@@ -16,7 +16,8 @@ pub fn exact_line(
     bounds: Bounds,
     into: &mut Vec<u64>,
 ) -> Result<(), TextError>
-    ensures { IsLine word.now (λ ns. length ns ≡ bounds.most) (AreWithin bounds) lines.old lines.new (holding into.new.items result) }
+    ensures { IsLine word.now (λ ns. length ns ≡ bounds.most) (AreWithin bounds) lines.old lines.new
+        (holding into.new.items result) }
 {
     let Some(line) = lines.take_line() else {
         return Err(TextError::TooShort);
@@ -83,7 +84,8 @@ pub fn number_line(
     least: u64,
     greatest: u64,
 ) -> Result<u64, TextError>
-    ensures { IsLine word.now (λ ns. length ns ≡ 1) (λ ns. All (λ n. (least ≤ n) × (n ≤ greatest)) ns) lines.old lines.new (seen_as (λ n. n ∷ []) result) }
+    ensures { IsLine word.now (λ ns. length ns ≡ 1) (λ ns. All (λ n. (least ≤ n) × (n ≤ greatest)) ns)
+        lines.old lines.new (seen_as (λ n. n ∷ []) result) }
 {
     let number = wide_number_line(lines, word, u128::from(greatest))? as u64;
     if number < least {
@@ -100,7 +102,8 @@ pub fn wide_number_line(
     word: &[u8],
     greatest: u128,
 ) -> Result<u128, TextError>
-    ensures { IsLine word.now (λ ns. length ns ≡ 1) (λ ns. All (λ n. n ≤ greatest) ns) lines.old lines.new (seen_as (λ n. n ∷ []) result) }
+    ensures { IsLine word.now (λ ns. length ns ≡ 1) (λ ns. All (λ n. n ≤ greatest) ns) lines.old lines.new
+        (seen_as (λ n. n ∷ []) result) }
 {
     let Some(line) = lines.take_line() else {
         return Err(TextError::TooShort);
@@ -132,7 +135,8 @@ fn one_number(word: &[u8], line: &[u8], greatest: u128) -> Number
 
 /// Whether nothing is left behind the last line.
 pub fn at_end(lines: &Lines<'_>) -> Result<(), TextError>
-    ensures { MatchResult result (λ _. lines.now.rest ≡ []) (λ e. (e ≡ TextError.Trailing (lines.now.given + 1)) × (lines.now.rest ≢ [])) }
+    ensures { MatchResult result (λ _. lines.now.rest ≡ []) (λ e. (e ≡ TextError.Trailing (lines.now.given + 1)) ×
+        (lines.now.rest ≢ [])) }
 {
     if lines.rest().is_empty() {
         return Ok(());

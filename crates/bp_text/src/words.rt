@@ -11,7 +11,8 @@ use std::marker::Model;
 
 /// The words of a line, apart by one space each, given one by one.
 ///
-/// Contracts see the words that were not given yet. A line has one word more than spaces, so a space at an end or beside
+/// Contracts see the words that were not given yet. A line has one word more than spaces, so a space at an end or
+/// beside
 /// another stands next to an empty word.
 #[derive(Drop)]
 pub struct Words<'a> {

@@ -439,7 +439,8 @@ fn house(alloc: Global) -> Result<House, Fail> {
 
 // A board for the house as it is opened.
 fn opening(alloc: Global, house: &House) -> Result<Arc<Board>, Fail>
-    ensures { IfOk result (λ b. ((arc_value b).position ≡ 0) × IsCertificateOf (opening house.now) (arc_value b).certificate) }
+    ensures { IfOk result (λ b. ((arc_value b).position ≡ 0) ×
+        IsCertificateOf (opening house.now) (arc_value b).certificate) }
 {
     let certificate = Certificate {
         value: 250,

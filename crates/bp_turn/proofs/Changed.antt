@@ -22,7 +22,8 @@ at_end (x ∷ xs) a b (suc j) e = ⊎_elim (λ t. inl t) (λ t. inr (ap suc t.0,
 
 module _ {F E : Type 0} where
   -- what holds of the changed view and of the others holds of each
-  pub one_set : (P : ℕ → View F E → Type 0) (views : List (View F E)) (id : ℕ) (w : View F E) → P id w → ((j : ℕ) (u : View F E) → j ≢ id → get_elem? views j ≡ some u → P j u)
+  pub one_set : (P : ℕ → View F E → Type 0) (views : List (View F E)) (id : ℕ) (w : View F E) → P id w →
+      ((j : ℕ) (u : View F E) → j ≢ id → get_elem? views j ≡ some u → P j u)
       → (j : ℕ) (u : View F E) → get_elem? (set views id w) j ≡ some u → P j u
   one_set P views id w mine rest j u e = ⊎_elim
       (λ (t : (j ≡ id) × (w ≡ u)). subst (λ (x : ℕ × View F E). P x.0 x.1) (λ i. (sym t.0 i, t.1 i)) mine)
@@ -30,7 +31,8 @@ module _ {F E : Type 0} where
       (at_set views id j w u e)
 
   -- the same of two changed views
-  pub two_set : (P : ℕ → View F E → Type 0) (views : List (View F E)) (id k : ℕ) (v w : View F E) → P id v → P k w → ((j : ℕ) (u : View F E) → j ≢ id → j ≢ k → get_elem? views j ≡ some u → P j u)
+  pub two_set : (P : ℕ → View F E → Type 0) (views : List (View F E)) (id k : ℕ) (v w : View F E) → P id v → P k w →
+      ((j : ℕ) (u : View F E) → j ≢ id → j ≢ k → get_elem? views j ≡ some u → P j u)
       → (j : ℕ) (u : View F E) → get_elem? (set (set views id v) k w) j ≡ some u → P j u
   two_set P views id k v w p q rest = one_set P (set views id v) k w q
       (λ j u ne e. ⊎_elim
@@ -39,14 +41,19 @@ module _ {F E : Type 0} where
       (at_set views id j v u e))
 
   -- the same where a view is added
-  pub one_more_view : (P : ℕ → View F E → Type 0) (views : List (View F E)) (w : View F E) (n : ℕ) → length views ≡ n → ((j : ℕ) (u : View F E) → get_elem? views j ≡ some u → P j u) → P n w
+  pub one_more_view : (P : ℕ → View F E → Type 0) (views : List (View F E)) (w : View F E) (n : ℕ) → length views ≡ n →
+      ((j : ℕ) (u : View F E) → get_elem? views j ≡ some u → P j u) → P n w
       → (j : ℕ) (u : View F E) → get_elem? (views ++ w ∷ []) j ≡ some u → P j u
-  one_more_view P views w n is all new j u e = ⊎_elim (all j u) (λ (t : (j ≡ length views) × (w ≡ u)). subst (λ (x : ℕ × View F E). P x.0 x.1) (λ i. (sym (t.0 ∙ is) i, t.1 i)) new) (at_end views w u j e)
+  one_more_view P views w n is all new j u e =
+      ⊎_elim (all j u) (λ (t : (j ≡ length views) × (w ≡ u)). subst (λ (x : ℕ × View F E). P x.0 x.1) (λ i. (sym (t.0 ∙ is) i, t.1 i)) new)
+      (at_end views w u j e)
 
   -- who has a view of which P holds still has one, where the changed view keeps P
-  pub still_there : (P : View F E → Type 0) (views : List (View F E)) (id : ℕ) (v w : View F E) → get_elem? views id ≡ some v → (P v → P w) → (j : ℕ) → There views j P → There (set views id w) j P
+  pub still_there : (P : View F E → Type 0) (views : List (View F E)) (id : ℕ) (v w : View F E) → get_elem? views id ≡ some v → (P v → P w) → (j : ℕ) →
+      There views j P → There (set views id w) j P
   still_there P views id v w at keep j (u, there, holds) = dite (ℕ_discrete j id)
-      (λ e. let same : u ≡ v = some-injective u v (sym there ∙ (ap (get_elem? views) e ∙ at)) in subst (λ (k : ℕ). There (set views id w) k P) (sym e) (w, at_there views id v w at, keep (subst P same holds)))
+      (λ e. let same : u ≡ v = some-injective u v (sym there ∙ (ap (get_elem? views) e ∙ at)) in
+      subst (λ (k : ℕ). There (set views id w) k P) (sym e) (w, at_there views id v w at, keep (subst P same holds)))
       (λ ne. (u, set_else views id j w ne ∙ there, holds))
 
   pub there_longer : (P : View F E → Type 0) (views : List (View F E)) (w : View F E) (j : ℕ) → There views j P → There (views ++ w ∷ []) j P
@@ -56,7 +63,8 @@ module _ {F E : Type 0} where
   there_else P views k w j ne (u, there, holds) = (u, set_else views k j w ne ∙ there, holds)
 
   -- a step of the seat id leaves the turn with who has it
-  pub still_out : (views : List (View F E)) (id : ℕ) (v w : View F E) → get_elem? views id ≡ some v → (v.has_turn ≡ true → w.has_turn ≡ true) → SomeHasTurn views → SomeHasTurn (set views id w)
+  pub still_out : (views : List (View F E)) (id : ℕ) (v w : View F E) → get_elem? views id ≡ some v → (v.has_turn ≡ true → w.has_turn ≡ true) →
+      SomeHasTurn views → SomeHasTurn (set views id w)
   still_out views id v w at keep (j, there) = (j, still_there (λ (u : View F E). u.has_turn ≡ true) views id v w at keep j there)
 
   pub still_in : (views : List (View F E)) (id : ℕ) (w : View F E) → w.has_turn ≡ false → NoneHasTurn views → NoneHasTurn (set views id w)

@@ -23,7 +23,8 @@ module _ {E : Type 0} (caller : E → ℕ) (n : ℕ) where
   one_more xs e is = filter-append (λ x. caller x == n) xs (e ∷ []) ∙ ap (λ (b : Bool). by xs ++ cond b (e ∷ []) []) (eq-eqb (caller e) n is)
 
   pub no_more : (xs : List E) (e : E) → caller e ≢ n → by (xs ++ e ∷ []) ≡ by xs
-  no_more xs e is = filter-append (λ x. caller x == n) xs (e ∷ []) ∙ (ap (λ (b : Bool). by xs ++ cond b (e ∷ []) []) (ne_eqb (caller e) n is) ∙ append-nil (by xs))
+  no_more xs e is = filter-append (λ x. caller x == n) xs (e ∷ []) ∙
+      (ap (λ (b : Bool). by xs ++ cond b (e ∷ []) []) (ne_eqb (caller e) n is) ∙ append-nil (by xs))
 
   -- what is the same in two prefixes is the same between them
   between : (xs ys all es : List E) → IsPrefix xs ys → IsPrefix ys all → by xs ≡ es → by all ≡ es → by ys ≡ es
@@ -36,17 +37,22 @@ module _ {E : Type 0} (caller : E → ℕ) (n : ℕ) where
 
   -- what either list has of the caller, and the whole history too, the longer has
   pub longer_has : (xs ys all es : List E) → IsPrefix xs all → IsPrefix ys all → by xs ≡ es → by all ≡ es → by (longer xs ys) ≡ es
-  longer_has xs ys all es p q here whole = of_longer (λ l _. by l ≡ es) xs ys (λ lt. between xs ys all es (prefix_of_prefix xs ys all p q (omega arith)) q here whole) (λ _. here)
+  longer_has xs ys all es p q here whole =
+      of_longer (λ l _. by l ≡ es) xs ys (λ lt. between xs ys all es (prefix_of_prefix xs ys all p q (omega arith)) q here whole) (λ _. here)
 
   pub longer_has_second : (xs ys all es : List E) → IsPrefix xs all → IsPrefix ys all → by ys ≡ es → by all ≡ es → by (longer xs ys) ≡ es
-  longer_has_second xs ys all es p q here whole = of_longer (λ l _. by l ≡ es) xs ys (λ _. here) (λ le. between ys xs all es (prefix_of_prefix ys xs all q p le) p here whole)
+  longer_has_second xs ys all es p q here whole =
+      of_longer (λ l _. by l ≡ es) xs ys (λ _. here) (λ le. between ys xs all es (prefix_of_prefix ys xs all q p le) p here whole)
 
 module _ {E : Type 0} (caller : E → ℕ) where
   -- where all entries are of one caller
   pub all_of : (n : ℕ) (xs : List E) → All (λ (e : E). caller e ≡ n) xs → entries_by caller n xs ≡ xs
   all_of n [] h = refl
-  all_of n (x ∷ xs) h = ap (λ (b : Bool). cond b (x ∷ entries_by caller n xs) (entries_by caller n xs)) (eq-eqb (caller x) n (All-head (λ (e : E). caller e ≡ n) x xs h)) ∙ ap (λ (l : List E). x ∷ l) (all_of n xs (All-tail (λ (e : E). caller e ≡ n) x xs h))
+  all_of n (x ∷ xs) h = ap (λ (b : Bool). cond b (x ∷ entries_by caller n xs) (entries_by caller n xs))
+      (eq-eqb (caller x) n (All-head (λ (e : E). caller e ≡ n) x xs h)) ∙ ap (λ (l : List E). x ∷ l) (all_of n xs (All-tail (λ (e : E). caller e ≡ n) x xs h))
 
   pub none_of : (n m : ℕ) (xs : List E) → m ≢ n → All (λ (e : E). caller e ≡ n) xs → entries_by caller m xs ≡ []
   none_of n m [] ne h = refl
-  none_of n m (x ∷ xs) ne h = ap (λ (b : Bool). cond b (x ∷ entries_by caller m xs) (entries_by caller m xs)) (ne_eqb (caller x) m (λ e. ne (sym e ∙ All-head (λ (e : E). caller e ≡ n) x xs h))) ∙ none_of n m xs ne (All-tail (λ (e : E). caller e ≡ n) x xs h)
+  none_of n m (x ∷ xs) ne h =
+      ap (λ (b : Bool). cond b (x ∷ entries_by caller m xs) (entries_by caller m xs))
+      (ne_eqb (caller x) m (λ e. ne (sym e ∙ All-head (λ (e : E). caller e ≡ n) x xs h))) ∙ none_of n m xs ne (All-tail (λ (e : E). caller e ≡ n) x xs h)

@@ -1,9 +1,46 @@
 -- Functions on numbers that are changed at one place, how many numbers pass a test, and lists of callers' numbers.
-use Rattle.std.proofs.Common.{◌≡◌, ◌≢◌, ℕ, zero, suc, ◌+◌, ◌%◌, ◌^◌, ◌<◌, ◌≤◌, ◌==◌, Bool, true, false, not, cond, List, [], ◌∷◌, sym, refl, ap, ◌∙◌, ⊎_elim, arith, eq-eqb, ne_eqb}
+use Rattle.std.proofs.Common.{
+  ◌≡◌,
+  ◌≢◌,
+  ℕ,
+  zero,
+  suc,
+  ◌+◌,
+  ◌%◌,
+  ◌^◌,
+  ◌<◌,
+  ◌≤◌,
+  ◌==◌,
+  Bool,
+  true,
+  false,
+  not,
+  cond,
+  List,
+  [],
+  ◌∷◌,
+  sym,
+  refl,
+  ap,
+  ◌∙◌,
+  ⊎_elim,
+  arith,
+  eq-eqb,
+  ne_eqb,
+}
 use mathlib.Core.Logic.{dite}
 use native.Mathlib.Decide.{ℕ_discrete}
 use Rattle.std.specs.List.{All, Contains}
-use Rattle.std.proofs.lemmas.List.Elements.{All-nil, All-cons, All-weaker, All-contains_itself, All-filter, Contains-append_right, Contains-append_cases, filter_passes}
+use Rattle.std.proofs.lemmas.List.Elements.{
+  All-nil,
+  All-cons,
+  All-weaker,
+  All-contains_itself,
+  All-filter,
+  Contains-append_right,
+  Contains-append_cases,
+  filter_passes,
+}
 use Rattle.bp_turn.specs.Callers.{numbers_from, without}
 use Rattle.bp_turn.specs.Rule.{bit, count_below}
 
@@ -63,7 +100,8 @@ pub run_between : (a k : ℕ) → All (λ n. (a ≤ n) × (n < a + k)) (numbers_
 unfolding numbers_from
 run_between a zero = All-nil (λ n. (a ≤ n) × (n < a + zero))
 run_between a (suc k) = All-cons (λ n. (a ≤ n) × (n < a + suc k)) a (numbers_from (suc a) k) (omega arith, omega arith)
-    (All-weaker (λ n. (suc a ≤ n) × (n < suc a + k)) (λ n. (a ≤ n) × (n < a + suc k)) (λ n h. let l = h.0 in let m = h.1 in (omega arith, omega arith)) (numbers_from (suc a) k) (run_between (suc a) k))
+    (All-weaker (λ n. (suc a ≤ n) × (n < suc a + k)) (λ n. (a ≤ n) × (n < a + suc k)) (λ n h. let l = h.0 in let m = h.1 in
+    (omega arith, omega arith)) (numbers_from (suc a) k) (run_between (suc a) k))
 
 pub run_contains : (a k n : ℕ) → a ≤ n → n < a + k → Contains (numbers_from a k) n
 unfolding numbers_from
@@ -75,16 +113,20 @@ run_contains a (suc k) n l m = dite (ℕ_discrete a n)
 no_such : (a b k : ℕ) → a < b → without a (numbers_from b k) ≡ numbers_from b k
 unfolding numbers_from
 no_such a b zero l = refl
-no_such a b (suc k) l = ap (λ c. cond (not c) (b ∷ without a (numbers_from (suc b) k)) (without a (numbers_from (suc b) k))) (ne_eqb b a (λ e. absurd (omega arith))) ∙ ap (λ (ms : List ℕ). b ∷ ms) (no_such a (suc b) k (omega arith))
+no_such a b (suc k) l = ap (λ c. cond (not c) (b ∷ without a (numbers_from (suc b) k)) (without a (numbers_from (suc b) k)))
+    (ne_eqb b a (λ e. absurd (omega arith))) ∙ ap (λ (ms : List ℕ). b ∷ ms) (no_such a (suc b) k (omega arith))
 
 -- a run without its first number
 pub run_without : (a k : ℕ) → without a (numbers_from a (suc k)) ≡ numbers_from (suc a) k
 unfolding numbers_from
-run_without a k = ap (λ c. cond (not c) (a ∷ without a (numbers_from (suc a) k)) (without a (numbers_from (suc a) k))) (eq-eqb a a refl) ∙ no_such a (suc a) k (omega arith)
+run_without a k = ap (λ c. cond (not c) (a ∷ without a (numbers_from (suc a) k)) (without a (numbers_from (suc a) k))) (eq-eqb a a refl) ∙
+    no_such a (suc a) k (omega arith)
 
 -- what is left when n is gone
 pub left_over : (n : ℕ) (ms : List ℕ) → All (λ m. (m ≢ n) × Contains ms m) (without n ms)
-left_over n ms k d lt = let xs = without n ms in let passes = filter_passes (λ m. not (m == n)) ms k d lt in let within = All-filter (λ m. not (m == n)) (Contains ms) ms (All-contains_itself ms) k d lt in ((λ e. absurd (let z = ap not (eq-eqb _ n e) in cc)), within)
+left_over n ms k d lt = let xs = without n ms in let passes = filter_passes (λ m. not (m == n)) ms k d lt in
+    let within = All-filter (λ m. not (m == n)) (Contains ms) ms (All-contains_itself ms) k d lt in
+    ((λ e. absurd (let z = ap not (eq-eqb _ n e) in cc)), within)
 
 pub still_left : (n m : ℕ) (ms : List ℕ) → m ≢ n → Contains ms m → Contains (without n ms) m
 still_left n m [] ne h = absurd (let l = h.1 in omega arith)

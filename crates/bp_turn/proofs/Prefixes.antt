@@ -1,5 +1,31 @@
 -- Prefixes of lists, and the longer of two.
-use Rattle.std.proofs.Common.{◌≡◌, ◌<◌, ◌≤◌, nat_lt, cond, true, false, List, [], ◌∷◌, ◌++◌, length, ◌⊎◌, sym, refl, ap, ◌∙◌, subst, ⊎_elim, ltb-true, ltb-false, arith, append-nil, append_assoc, length-append}
+use Rattle.std.proofs.Common.{
+  ◌≡◌,
+  ◌<◌,
+  ◌≤◌,
+  nat_lt,
+  cond,
+  true,
+  false,
+  List,
+  [],
+  ◌∷◌,
+  ◌++◌,
+  length,
+  ◌⊎◌,
+  sym,
+  refl,
+  ap,
+  ◌∙◌,
+  subst,
+  ⊎_elim,
+  ltb-true,
+  ltb-false,
+  arith,
+  append-nil,
+  append_assoc,
+  length-append,
+}
 use mathlib.Core.Logic.{dite}
 use native.Mathlib.Decide.{dec_le}
 use Rattle.bp_turn.specs.Prefix.{IsPrefix, longer, shorter}
@@ -36,15 +62,18 @@ module _ {E : Type 0} where
   pub prefix_whole : (xs ys : List E) → IsPrefix xs ys → length ys ≤ length xs → xs ≡ ys
   prefix_whole [] ys (rest, e) le = sym (empty ys (omega arith))
   prefix_whole (x ∷ xs) [] (rest, e) le = absurd (cc)
-  prefix_whole (x ∷ xs) (y ∷ ys) (rest, e) le = let h : y ≡ x = cc in let t : ys ≡ xs ++ rest = cc in let r = prefix_whole xs ys (rest, t) (omega arith) in λ i. sym h i ∷ r i
+  prefix_whole (x ∷ xs) (y ∷ ys) (rest, e) le = let h : y ≡ x = cc in let t : ys ≡ xs ++ rest = cc in let r = prefix_whole xs ys (rest, t) (omega arith) in
+      λ i. sym h i ∷ r i
 
   pub last_same : (xs : List E) (x y : E) → xs ++ x ∷ [] ≡ xs ++ y ∷ [] → x ≡ y
   last_same [] x y e = cc
   last_same (z ∷ xs) x y e = last_same xs x y (cc)
 
   -- a fact of the longer list and the shorter, as the lengths have it
-  pub of_longer : (P : List E → List E → Type 0) (xs ys : List E) → (length xs < length ys → P ys xs) → (length ys ≤ length xs → P xs ys) → P (longer xs ys) (shorter xs ys)
-  of_longer P xs ys f g = (elim (nat_lt (length xs) (length ys)) as (λ b. nat_lt (length xs) (length ys) ≡ b → P (cond b ys xs) (cond b xs ys)) [ true ↦ λ e. f (ltb-true _ _ e) | false ↦ λ e. g (ltb-false _ _ e) ]) refl
+  pub of_longer : (P : List E → List E → Type 0) (xs ys : List E) → (length xs < length ys → P ys xs) → (length ys ≤ length xs → P xs ys) →
+      P (longer xs ys) (shorter xs ys)
+  of_longer P xs ys f g = (elim (nat_lt (length xs) (length ys)) as (λ b. nat_lt (length xs) (length ys) ≡ b →
+      P (cond b ys xs) (cond b xs ys)) [ true ↦ λ e. f (ltb-true _ _ e) | false ↦ λ e. g (ltb-false _ _ e) ]) refl
 
   pub shorter_le : (xs ys : List E) → length (shorter xs ys) ≤ length (longer xs ys)
   shorter_le xs ys = of_longer (λ l k. length k ≤ length l) xs ys (λ lt. omega arith) (λ le. le)
@@ -76,6 +105,7 @@ module _ {E : Type 0} where
   pub longer_comm : (xs ys : List E) → IsPrefix xs (longer xs ys) → IsPrefix ys (longer xs ys) → longer ys xs ≡ longer xs ys
   longer_comm xs ys p q = dite (dec_le (length ys) (length xs))
       (λ le. dite (dec_le (length xs) (length ys))
-      (λ ge. let same : ys ≡ xs = prefix_whole ys xs (subst (IsPrefix ys) (longer_first xs ys le) q) ge in longer_first ys xs ge ∙ (same ∙ sym (longer_first xs ys le)))
+      (λ ge. let same : ys ≡ xs = prefix_whole ys xs (subst (IsPrefix ys) (longer_first xs ys le) q) ge in
+      longer_first ys xs ge ∙ (same ∙ sym (longer_first xs ys le)))
       (λ gt. longer_second ys xs (omega arith) ∙ sym (longer_first xs ys le)))
       (λ lt. longer_first ys xs (omega arith) ∙ sym (longer_second xs ys (omega arith)))

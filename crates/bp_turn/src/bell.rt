@@ -3,7 +3,8 @@ use std::sync::Wait;
 use std::sync::atomic::AtomicU64;
 use std::sync::atomic::Ordering::SeqCst;
 
-/// A bell that is rung only where some thread asked for it. Who wants to sleep asks first, looks once more whether it has to wait, and sleeps then: a ring after that look wakes it, and a ring before it keeps it from falling asleep.
+/// A bell that is rung only where some thread asked for it. Who wants to sleep asks first, looks once more whether it
+/// has to wait, and sleeps then: a ring after that look wakes it, and a ring before it keeps it from falling asleep.
 #[derive(Drop)]
 pub struct Bell {
     // How often it was asked for and rung. Odd: it was asked for since it was rung last.
@@ -18,7 +19,8 @@ impl Bell {
         }
     }
 
-    /// Asks for the next ring, and answers what `sleep` is to be told. Where it is rung meanwhile, `sleep` returns at once.
+    /// Asks for the next ring, and answers what `sleep` is to be told. Where it is rung meanwhile, `sleep` returns at
+    /// once.
     pub fn ask(&self) -> u64 {
         let count = self.count.load(SeqCst);
         let asked = count | 1;
@@ -47,7 +49,8 @@ impl Bell {
         }
     }
 
-    // Whether this ring is the one that was asked for. The load comes first since it costs less, and mostly nobody asked.
+    // Whether this ring is the one that was asked for. The load comes first since it costs less, and mostly nobody
+    // asked.
     fn was_asked(&self) -> bool {
         let count = self.count.load(SeqCst);
         let rung = count.wrapping_add(1);

@@ -1,4 +1,16 @@
-//! A ticket lock whose value carries a history: who takes the lock knows that the history begins with all that it had seen before, and that its own entries stand in it each once and in order.
+//! A ticket lock whose value carries a history: who takes the lock knows that the history begins with all that it had
+//! seen before, and that its own entries stand in it each once and in order.
+//!
+//! A turn that adds an entry to a log: who takes it waits for those before it, and each turn is given back.
+//!
+//! ```
+//! let mut log = turn.take(rt, seat);
+//! if log.pairs.push((caller, number)).is_err() {
+//!     turn.give(seat, log);
+//!     return false;
+//! }
+//! turn.give_logged(seat, log);
+//! ```
 #![tactic(auto)]
 
 mod bell;

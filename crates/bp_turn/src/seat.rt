@@ -5,7 +5,8 @@ use crate::story::Story;
 use crate::table::Place;
 use std::marker::Model;
 
-/// The right to take turns at one lock, under one number. It has no bytes and no lifetime, and may move to another thread. Contracts see which lock it is of, and what it has seen and done there.
+/// The right to take turns at one lock, under one number. It has no bytes and no lifetime, and may move to another
+/// thread. Contracts see which lock it is of, and what it has seen and done there.
 #[derive(Drop)]
 pub struct TurnSeat<B: Story> {
     pub(crate) place: Place<B>,

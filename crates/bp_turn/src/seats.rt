@@ -1,5 +1,6 @@
 // The calls that make a seat of another, end a seat in another, or let two tell each other what they have seen.
 ghost use Rattle.std.specs.Prelude.{◌≡◌, ◌<◌, false, [], ◌∷◌, ◌++◌, Contains, IsOk, IsOkAnd, Some};
+ghost use Rattle.bp_types.specs.declared.limits.TheConstants.{CALLERS};
 ghost use Rattle.bp_turn.specs.Callers.{without};
 ghost use Rattle.bp_turn.specs.Plays.{IsNote};
 ghost use Rattle.bp_turn.specs.Prefix.{IsPrefix, longer};
@@ -14,7 +15,8 @@ use crate::turn::{Memory, Turn};
 use std::alloc::Global;
 
 impl<B: Story> Turn<B> {
-    /// A new seat with the number, which has seen as much. A seat has no bytes, so no memory is taken and the answer is never `Memory`.
+    /// A new seat with the number, which has seen as much. A seat has no bytes, so no memory is taken and the answer is
+    /// never `Memory`.
     pub fn split(
         &self,
         _alloc: Global,
@@ -50,7 +52,8 @@ impl<B: Story> Turn<B> {
         self.absorb(&mut seat.place, place);
     }
 
-    /// Each of two seats learns what the other has seen. A seat has no bytes, so no memory is taken and the answer is never `Memory`.
+    /// Each of two seats learns what the other has seen. A seat has no bytes, so no memory is taken and the answer is
+    /// never `Memory`.
     pub fn meet(
         &self,
         _alloc: Global,
@@ -95,7 +98,7 @@ impl<B: Story> Turn<B> {
         requires lock { (place.old.table_id ≡ self.now) × (other.table_id ≡ self.now) }
         requires idle { (place.old.me.0.has_turn ≡ false) × (other.me.0.has_turn ≡ false) }
         requires ticket { (other.me.0.has_ticket ≡ false) × (other.me.1 ≡ []) }
-        requires number { other.me.0.number < 64 }
+        requires number { other.me.0.number < CALLERS }
         ensures place { (place.new.table_id ≡ place.old.table_id) × (place.new.id ≡ place.old.id) }
         ensures me { place.new.me ≡ (view_joined place.old.me.0 other.me.0, place.old.me.1) }
         ensures begins { IsPrefix place.old.me.0.seen (longer place.old.me.0.seen other.me.0.seen)

@@ -1,7 +1,8 @@
 // What a value under the lock has to be.
 ghost use Rattle.std.specs.Prelude.{◌≡◌, ℕ, List, length};
 
-/// A value that a history lock may hold. It has a part that never changes, and a list of entries, its story, each made by a caller with a number.
+/// A value that a history lock may hold. It has a part that never changes, and a list of entries, its story, each made
+/// by a caller with a number.
 pub trait Story {
     /// The part that never changes. All values that lie in one lock have the same.
     type Fixed;

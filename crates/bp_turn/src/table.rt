@@ -10,7 +10,7 @@ use std::snapshot::Snapshot;
 pub struct View<F, E> {
     /// The fixed part of the lock's value. A spent view, whose seat was joined into another, has none.
     pub fixed: Option<F>,
-    /// The number that the seat logs under. From 64 on it has none.
+    /// The number that the seat logs under. From `CALLERS` on it has none.
     pub number: u64,
     /// What the seat has seen of the history.
     pub seen: LinkedList<E>,

@@ -1,4 +1,5 @@
 ghost use Rattle.std.specs.Prelude.{◌≡◌, ◌<◌, ◌≤◌, ◌++◌, ◌∷◌, [], true, false, IfOk};
+ghost use Rattle.bp_types.specs.declared.limits.TheConstants.{CALLERS};
 ghost use Rattle.bp_turn.specs.Prefix.{IsPrefix};
 
 use crate::{Memory, Story, Turn, TurnSeat};
@@ -35,7 +36,7 @@ fn opened(
     numbers: &[u32],
     other: u32,
 ) -> Result<(Turn<Log>, TurnSeat<Log>, TurnSeat<Log>), Memory>
-    requires { (1 ≤ other) × (other < 64) }
+    requires { (1 ≤ other) × (other < CALLERS) }
     ensures first { IfOk result (λ r. (r.1.lock ≡ r.0) × (r.1.number ≡ 0) × (r.1.has_turn ≡ false)) }
     ensures second { IfOk result (λ r. (r.2.lock ≡ r.0) × (r.2.number ≡ other) × (r.2.has_turn ≡ false)) }
 {
@@ -91,7 +92,8 @@ fn add_hundred<R: Wait>(
 // A turn that adds nothing.
 fn pass_by<B: Story, R: Wait>(rt: &R, turn: &Turn<B>, mut seat: TurnSeat<B>) -> TurnSeat<B>
     requires { (seat.lock ≡ turn.now) × (seat.has_turn ≡ false) }
-    ensures { (result.lock ≡ turn.now) × (result.has_turn ≡ false) × (result.number ≡ seat.number) × (result.own ≡ seat.own) }
+    ensures { (result.lock ≡ turn.now) × (result.has_turn ≡ false) × (result.number ≡ seat.number) ×
+        (result.own ≡ seat.own) }
 {
     let value = turn.take(rt, &mut seat);
     turn.give(&mut seat, value);

@@ -1,5 +1,6 @@
 // The lock, and the calls that take a turn or look at the length.
 ghost use Rattle.std.specs.Prelude.{◌≡◌, ◌%◌, ◌^◌, ◌<◌, ◌≤◌, true, false, [], ◌∷◌, ◌++◌, length, IfOk, Some, All, None};
+ghost use Rattle.bp_types.specs.declared.limits.TheConstants.{CALLERS};
 ghost use Rattle.bp_turn.specs.Plays.{Took};
 ghost use Rattle.bp_turn.specs.Prefix.{IsPrefix};
 ghost use Rattle.bp_turn.specs.Seat.{first_seat};
@@ -46,7 +47,8 @@ impl<B: Story> Model for Turn<B> {
 }
 
 impl<B: Story + Drop> Turn<B> {
-    /// A lock over the value, and its first seat, which has the number 0 and may hand out 1 to 63. Without memory the value is dropped.
+    /// A lock over the value, and its first seat, which has the number 0 and may hand out the others below `CALLERS`.
+    /// Without memory the value is dropped.
     pub fn new(alloc: Global, value: B) -> Result<(Turn<B>, TurnSeat<B>), Memory>
         requires { All (λ (e : B.Entry). B.caller e ≡ 0) (B.story value) }
         ensures { IfOk result (λ r. r.1 ≡ first_seat r.0 (B.fixed value) (B.story value)) }
@@ -108,7 +110,8 @@ impl<B: Story> Turn<B> {
         self.serve_next(&mut seat.place);
     }
 
-    /// Gives the value back with one entry more, which the seat made, and ends the turn. The one atomic step that raises the length makes the entry part of the history.
+    /// Gives the value back with one entry more, which the seat made, and ends the turn. The one atomic step that
+    /// raises the length makes the entry part of the history.
     pub fn give_logged(&self, seat: &mut TurnSeat<B>, value: B)
         requires lock { seat.old.lock ≡ self.now }
         requires turn { seat.old.has_turn ≡ true }
@@ -124,7 +127,8 @@ impl<B: Story> Turn<B> {
             } }
     {
         let _length = value.length();
-        // The value goes back into the slot before the step on the length, since that step reads the entry there. The seat holds the slot until the next ticket is served, so no other thread can touch it in between.
+        // The value goes back into the slot before the step on the length, since that step reads the entry there. The
+        // seat holds the slot until the next ticket is served, so no other thread can touch it in between.
         self.put_back(&mut seat.place, value);
         self.table
             .shared
@@ -155,7 +159,7 @@ impl<B: Story> Turn<B> {
     // Gives the slot back, serves the next ticket, and wakes those that it may concern.
     fn serve_next(&self, place: &mut Place<B>)
         requires lock { place.old.table_id ≡ self.now }
-        requires turn { (place.old.me.0.number < 64) × (place.old.me.0.has_turn ≡ true) }
+        requires turn { (place.old.me.0.number < CALLERS) × (place.old.me.0.has_turn ≡ true) }
         requires slot { (b : B)
             × (place.old.me.1 ≡ (0, Some b) ∷ [])
             × (B.story b ≡ place.old.me.0.seen)
@@ -168,7 +172,9 @@ impl<B: Story> Turn<B> {
         self.door.ring_for_one();
     }
 
-    // Sleeps before it draws a ticket, until no ticket is out: else each turn would wait for the one thread that is next to wake up. After some sleeps it goes on all the same, so that threads that came later do not pass it for ever.
+    // Sleeps before it draws a ticket, until no ticket is out: else each turn would wait for the one thread that is
+    // next to wake up. After some sleeps it goes on all the same, so that threads that came later do not pass it for
+    // ever.
     fn approach<R: Wait>(&self, rt: &R) {
         for _ in 0..PATIENCE {
             if self.is_free() {
@@ -192,7 +198,7 @@ impl<B: Story> Turn<B> {
     // Sleeps until the ticket is served, and has the slot with the value then.
     fn wait<R: Wait>(&self, rt: &R, place: &mut Place<B>, ticket: u64)
         requires lock { place.old.table_id ≡ self.now }
-        requires ticket { (place.old.me.0.number < 64)
+        requires ticket { (place.old.me.0.number < CALLERS)
             × (place.old.me.0.has_ticket ≡ true)
             × (place.old.me.0.has_turn ≡ false)
             × (ticket ≡ place.old.me.0.ticket % 2 ^ 64) }

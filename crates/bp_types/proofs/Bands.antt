@@ -1,5 +1,29 @@
 -- The price of a night lies between what one room more brings and what one room fewer costs.
-use Rattle.std.proofs.Common.{suc, Bool, ◌≡◌, ◌≢◌, ℕ, ◌+◌, ◌-◌, ◌*◌, ◌<◌, ◌≤◌, true, false, List, length, slice_index, sym, refl, ap, ◌∙◌, arith, inl, inr, suc-mul}
+use Rattle.std.proofs.Common.{
+  suc,
+  Bool,
+  ◌≡◌,
+  ◌≢◌,
+  ℕ,
+  ◌+◌,
+  ◌-◌,
+  ◌*◌,
+  ◌<◌,
+  ◌≤◌,
+  true,
+  false,
+  List,
+  length,
+  slice_index,
+  sym,
+  refl,
+  ap,
+  ◌∙◌,
+  arith,
+  inl,
+  inr,
+  suc-mul,
+}
 use Rattle.std.proofs.lemmas.Bool.{cases_lt}
 use Rattle.bp_types.specs.Sums.{sum_below}
 use Rattle.bp_types.specs.Program.{Program, rooms_value, bound}
@@ -17,7 +41,9 @@ moved_value p prices n up nights = sum_below (λ k. slice_index (rooms_moved p.r
 rooms_differ : (p : Program) (prices : List ℕ) (n : ℕ) (up : Bool) → n < length p.rooms →
     moved_value p prices n up (length p.rooms) + slice_index p.rooms n * slice_index prices n
     ≡ rooms_value p prices + slice_index (rooms_moved p.rooms (night_span n) up 1) n * slice_index prices n
-rooms_differ p prices n up h = sum_below-at (λ k. slice_index (rooms_moved p.rooms (night_span n) up 1) k * slice_index prices k) (λ k. slice_index p.rooms k * slice_index prices k) (length p.rooms) n h
+rooms_differ p prices n up h =
+    sum_below-at (λ k. slice_index (rooms_moved p.rooms (night_span n) up 1) k * slice_index prices k) (λ k. slice_index p.rooms k * slice_index prices k)
+    (length p.rooms) n h
     (λ k lt ne. ap (λ (r : ℕ). r * slice_index prices k) (rooms_moved-at p.rooms (night_span n) up 1 k 0 lt ∙ elim (cases_lt k n) [
       | inl before ↦ room_moved-before p.rooms (night_span n) up 1 k before
       | inr past ↦ room_moved-past p.rooms (night_span n) up 1 k (let other : k ≢ n = ne in omega arith)
@@ -38,10 +64,12 @@ more_rooms p prices n h =
     omega (arith, as_many_nights p prices n true, rooms_differ p prices n true h, one)
 
 -- one room fewer lowers it by the price
-fewer_rooms : (p : Program) (prices : List ℕ) (n : ℕ) → n < length p.rooms → 1 ≤ slice_index p.rooms n → bound (without p (night_span n) 1) prices + slice_index prices n ≡ bound p prices
+fewer_rooms : (p : Program) (prices : List ℕ) (n : ℕ) → n < length p.rooms → 1 ≤ slice_index p.rooms n →
+    bound (without p (night_span n) 1) prices + slice_index prices n ≡ bound p prices
 fewer_rooms p prices n h some =
     let here = rooms_moved-at p.rooms (night_span n) false 1 n 0 h ∙ room_moved-inside p.rooms (night_span n) false 1 n (omega arith) (omega arith) in
-    let one = one_more_times (slice_index p.rooms n) (slice_index (rooms_moved p.rooms (night_span n) false 1) n) (slice_index prices n) (omega (arith, here)) in
+    let one = one_more_times (slice_index p.rooms n) (slice_index (rooms_moved p.rooms (night_span n) false 1) n) (slice_index prices n) (omega (arith, here))
+    in
     omega (arith, as_many_nights p prices n false, rooms_differ p prices n false h, one)
 
 pub gain_is_below_price : WeakDuality → OptimumIsUnique → GainIsBelowPrice

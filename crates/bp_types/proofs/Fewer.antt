@@ -31,7 +31,8 @@ more_left rooms s units n =
     ]
 
 -- no fewer rooms on each night make the optimum no smaller
-optimum_grows : (p : Program) (rooms : List ℕ) (v w : ℕ) → length rooms ≡ length p.rooms → ((n : ℕ) → n < length p.rooms → slice_index p.rooms n ≤ slice_index rooms n) →
+optimum_grows : (p : Program) (rooms : List ℕ) (v w : ℕ) → length rooms ≡ length p.rooms →
+    ((n : ℕ) → n < length p.rooms → slice_index p.rooms n ≤ slice_index rooms n) →
     IsOptimum p v → IsOptimum (record { rooms = rooms; stays = p.stays }) w → v ≤ w
 optimum_grows p rooms v w nights more a b =
     let q : Program = record { rooms = rooms; stays = p.stays } in
@@ -47,12 +48,17 @@ optimum_grows p rooms v w nights more a b =
 pub fewer_is_less : (p : Program) (s : Span) (units v w : ℕ) → IsOptimum p v → IsOptimum (without p s units) w → w ≤ v
 fewer_is_less p s units v w a b =
     let each = length-rooms_moved p.rooms s false units in
-    optimum_grows (without p s units) p.rooms w v (sym each) (λ n h. omega (arith, rooms_moved-at p.rooms s false units n 0 (omega (arith, each, h)), fewer_left p.rooms s units n)) b a
+    optimum_grows (without p s units) p.rooms w v (sym each) (λ n h. omega (
+      arith,
+      rooms_moved-at p.rooms s false units n 0 (omega (arith, each, h)),
+      fewer_left p.rooms s units n,
+    )) b a
 
 -- so many units more make it no smaller
 pub more_is_more : (p : Program) (s : Span) (units v w : ℕ) → IsOptimum p v → IsOptimum (with_more p s units) w → v ≤ w
 more_is_more p s units v w =
-    optimum_grows p (rooms_moved p.rooms s true units) v w (length-rooms_moved p.rooms s true units) (λ n h. omega (arith, rooms_moved-at p.rooms s true units n 0 h, more_left p.rooms s units n))
+    optimum_grows p (rooms_moved p.rooms s true units) v w (length-rooms_moved p.rooms s true units)
+    (λ n h. omega (arith, rooms_moved-at p.rooms s true units n 0 h, more_left p.rooms s units n))
 
 pub certificates_tell_displacement : CertificatesTellDisplacement
 certificates_tell_displacement p s units with_all fewer span has a b =

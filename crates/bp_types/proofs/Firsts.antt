@@ -8,12 +8,14 @@ find-range_none p a zero none = refl
 find-range_none p a (suc n) none =
     rw (cond-false _ _ _ (none a (omega arith) (omega arith))) (find-range_none p (a + 1) n (λ k above below. none k (omega arith) (omega arith)))
 
-pub find-range_some : (p : ℕ → Bool) (a n i : ℕ) → a ≤ i → i < a + n → ((k : ℕ) → a ≤ k → k < i → p k ≡ false) → p i ≡ true → find p (range_with_len a n) ≡ Some i
+pub find-range_some : (p : ℕ → Bool) (a n i : ℕ) → a ≤ i → i < a + n → ((k : ℕ) → a ≤ k → k < i → p k ≡ false) → p i ≡ true →
+    find p (range_with_len a n) ≡ Some i
 find-range_some p a zero i above below before here = absurd (omega arith)
 find-range_some p a (suc n) i above below before here =
     elim (cases_eq a i) [
       | inl e ↦ rw (cond-true _ _ _ (ap p e ∙ here)) (ap Some e)
-      | inr ne ↦ rw (cond-false _ _ _ (before a (omega arith) (omega arith))) (find-range_some p (a + 1) n i (omega arith) (omega arith) (λ k h g. before k (omega arith) g) here)
+      | inr ne ↦ rw (cond-false _ _ _ (before a (omega arith) (omega arith)))
+          (find-range_some p (a + 1) n i (omega arith) (omega arith) (λ k h g. before k (omega arith) g) here)
     ]
 
 -- none of the numbers passes where none is found

@@ -20,7 +20,8 @@ unless_house_none false e h = (cc)
 house_rooms_below : MOST_ROOMS ≤ MOST_UNITS
 house_rooms_below = omega arith
 
-none_oversold : (rooms sold : List ℕ) → find (is_oversold rooms sold) (range_with_len 0 (length rooms)) ≡ None → EachIndex rooms (λ n. slice_index sold n ≤ slice_index rooms n)
+none_oversold : (rooms sold : List ℕ) → find (is_oversold rooms sold) (range_with_len 0 (length rooms)) ≡ None →
+    EachIndex rooms (λ n. slice_index sold n ≤ slice_index rooms n)
 none_oversold rooms sold none n h = ltb-false _ _ (none_passes (is_oversold rooms sold) 0 (length rooms) none n (omega arith) (omega arith))
 
 pub house_from_no_refusal : (rooms sold : List ℕ) (stays : List Stay) (limits : Limits) → house_refusal rooms sold stays limits ≡ None →
@@ -67,13 +68,15 @@ opening_is_within h is =
       some_night = omega (arith, is.instance.some_night, each);
       nights = omega (arith, is.instance.nights, each);
       stays = is.instance.stays;
-      rooms = λ k d g. let e = get_or-map-range_with_len (units_left h) 0 (length h.rooms) k k d (omega (arith, each)) (omega arith) in omega (arith, e, units_left_small h k is (omega (arith, each)));
+      rooms = λ k d g. let e = get_or-map-range_with_len (units_left h) 0 (length h.rooms) k k d (omega (arith, each)) (omega arith) in
+          omega (arith, e, units_left_small h k is (omega (arith, each)));
       spans = λ k d g. let w = is.instance.spans k d g in (w.0, omega (arith, w.1, each));
       rates = is.instance.rates;
       forecasts = is.instance.forecasts;
     }
 
-pub opening_parts_are_within : (h : Inn) (rooms : List ℕ) (stays : List Stay) → IsHouse h → rooms ≡ (opening h).rooms → stays ≡ h.stays → IsWithinLimits (record { rooms = rooms; stays = stays })
+pub opening_parts_are_within : (h : Inn) (rooms : List ℕ) (stays : List Stay) → IsHouse h → rooms ≡ (opening h).rooms → stays ≡ h.stays →
+    IsWithinLimits (record { rooms = rooms; stays = stays })
 opening_parts_are_within h rooms stays is first second =
     let P : List ℕ → Type 0 = λ r. IsWithinLimits (record { rooms = r; stays = stays }) in
     let Q : List Stay → Type 0 = λ s. IsWithinLimits (record { rooms = (opening h).rooms; stays = s }) in

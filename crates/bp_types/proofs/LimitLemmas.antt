@@ -30,7 +30,8 @@ unless_none : (b : Bool) (e : InstanceError) → unless b e ≡ None → b ≡ t
 unless_none true e h = refl
 unless_none false e h = (cc)
 
-spans_from_test : (nights : ℕ) (stays : List Stay) → All (λ s. not (is_within nights s.span) ≡ false) stays → All (λ s. (s.span.from < s.span.to) × (s.span.to ≤ nights)) stays
+spans_from_test : (nights : ℕ) (stays : List Stay) → All (λ s. not (is_within nights s.span) ≡ false) stays →
+    All (λ s. (s.span.from < s.span.to) × (s.span.to ≤ nights)) stays
 spans_from_test nights stays h k d g =
     let s : Stay = get_or stays k d in
     let parts = and_parts (nat_lt s.span.from s.span.to) (nat_le s.span.to nights) (not-false _ (h k d g)) in

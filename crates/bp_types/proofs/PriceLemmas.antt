@@ -21,19 +21,22 @@ one_more_sum prices gone sum h so_far =
     omega (arith, fall, there, here, so_far)
 
 -- and the sums with it
-pub one_more_made : (prices sums : List ℕ) (gone sum : ℕ) → gone < length prices → length prices < length sums → sum ≡ price_from prices (length prices - (gone + 1)) →
+pub one_more_made : (prices sums : List ℕ) (gone sum : ℕ) → gone < length prices → length prices < length sums →
+    sum ≡ price_from prices (length prices - (gone + 1)) →
     ((n : ℕ) → length prices - gone ≤ n → n ≤ length prices → slice_index sums n ≡ price_from prices n) →
     (n : ℕ) → length prices - (gone + 1) ≤ n → n ≤ length prices → slice_index (set sums (length prices - 1 - gone) sum) n ≡ price_from prices n
 one_more_made prices sums gone sum h long now made n above within =
     let night = length prices - 1 - gone in
     let at : length prices - (gone + 1) ≡ night = omega arith in
     elim (cases_eq n night) [
-      | inl here ↦ let e = get_or-set_same sums night sum 0 (omega arith) in let f = ap (slice_index (set sums night sum)) here in let g = ap (price_from prices) (here ∙ sym at) in omega (arith, e, f, g, now)
+      | inl here ↦ let e = get_or-set_same sums night sum 0 (omega arith) in let f = ap (slice_index (set sums night sum)) here in
+          let g = ap (price_from prices) (here ∙ sym at) in omega (arith, e, f, g, now)
       | inr other ↦ let e = get_or-set_other sums night n sum 0 other in omega (arith, e, made n (omega arith) within)
     ]
 
 -- the price of a span is the difference of two sums
-pub price_of_sums : (prices sums : List ℕ) (s : Span) → SumUp prices sums → s.from ≤ s.to → s.to ≤ length prices → slice_index sums s.from - slice_index sums s.to ≡ price prices s
+pub price_of_sums : (prices sums : List ℕ) (s : Span) → SumUp prices sums → s.from ≤ s.to → s.to ≤ length prices →
+    slice_index sums s.from - slice_index sums s.to ≡ price prices s
 price_of_sums prices sums s made ordered within =
     let e = price_is_fall (price_from prices) prices s (price_from_sums prices) ordered within in
     omega (arith, e, made s.from (omega arith), made s.to within)

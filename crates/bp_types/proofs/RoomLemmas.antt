@@ -14,10 +14,12 @@ use Rattle.bp_types.proofs.Spans.{covers_inside, covers_before, covers_past}
 pub length-rooms_moved : (rooms : List ℕ) (s : Span) (up : Bool) (units : ℕ) → length (rooms_moved rooms s up units) ≡ length rooms
 length-rooms_moved rooms s up units = length-map-range_with_len (room_moved rooms s up units) 0 (length rooms)
 
-pub rooms_moved-at : (rooms : List ℕ) (s : Span) (up : Bool) (units n d : ℕ) → n < length rooms → get_or (rooms_moved rooms s up units) n d ≡ room_moved rooms s up units n
+pub rooms_moved-at : (rooms : List ℕ) (s : Span) (up : Bool) (units n d : ℕ) → n < length rooms →
+    get_or (rooms_moved rooms s up units) n d ≡ room_moved rooms s up units n
 rooms_moved-at rooms s up units n d h = get_or-map-range_with_len (room_moved rooms s up units) 0 (length rooms) n n d h (omega arith)
 
-pub room_moved-inside : (rooms : List ℕ) (s : Span) (up : Bool) (units n : ℕ) → s.from ≤ n → n < s.to → room_moved rooms s up units n ≡ moved (slice_index rooms n) up units
+pub room_moved-inside : (rooms : List ℕ) (s : Span) (up : Bool) (units n : ℕ) → s.from ≤ n → n < s.to →
+    room_moved rooms s up units n ≡ moved (slice_index rooms n) up units
 room_moved-inside rooms s up units n above below = cond-true _ _ _ (covers_inside s.from s.to n above below)
 
 pub room_moved-before : (rooms : List ℕ) (s : Span) (up : Bool) (units n : ℕ) → n < s.from → room_moved rooms s up units n ≡ slice_index rooms n
@@ -37,7 +39,8 @@ moved_by_all old new s up units each done left = fill_by_all (room_moved old s u
     ])
 
 -- rooms that keep to their limit on the span keep to it
-room_in_limit : (p : Program) (s : Span) (up : Bool) (units n : ℕ) → IsWithinLimits p → Fits p (Rooms s up units) → n < length p.rooms → room_moved p.rooms s up units n ≤ MOST_UNITS
+room_in_limit : (p : Program) (s : Span) (up : Bool) (units n : ℕ) → IsWithinLimits p → Fits p (Rooms s up units) → n < length p.rooms →
+    room_moved p.rooms s up units n ≤ MOST_UNITS
 room_in_limit p s up units n limits fits h =
     let was : slice_index p.rooms n ≤ MOST_UNITS = limits.rooms n 0 h in
     elim (cases_lt n s.from) [
@@ -48,24 +51,28 @@ room_in_limit p s up units n limits fits h =
       ]
     ]
   where
-    in_span : (up : Bool) → Fits p (Rooms s up units) → s.from ≤ n → n < s.to → slice_index p.rooms n ≤ MOST_UNITS → moved (slice_index p.rooms n) up units ≤ MOST_UNITS
+    in_span : (up : Bool) → Fits p (Rooms s up units) → s.from ≤ n → n < s.to → slice_index p.rooms n ≤ MOST_UNITS →
+        moved (slice_index p.rooms n) up units ≤ MOST_UNITS
     in_span true fits above below was = fits.1 n above below
     in_span false fits above below was = omega (arith, was)
 
-pub rooms_keep_limits : (p : Program) (s : Span) (up : Bool) (units : ℕ) → IsWithinLimits p → Fits p (Rooms s up units) → IsWithinLimits (changed p (Rooms s up units))
+pub rooms_keep_limits : (p : Program) (s : Span) (up : Bool) (units : ℕ) → IsWithinLimits p → Fits p (Rooms s up units) →
+    IsWithinLimits (changed p (Rooms s up units))
 rooms_keep_limits p s up units limits fits =
     let each = length-rooms_moved p.rooms s up units in
     record {
       some_night = omega (arith, limits.some_night, each);
       nights = omega (arith, limits.nights, each);
       stays = limits.stays;
-      rooms = λ k d h. let e = rooms_moved-at p.rooms s up units k d (omega (arith, each)) in omega (arith, e, room_in_limit p s up units k limits fits (omega (arith, each)));
+      rooms = λ k d h. let e = rooms_moved-at p.rooms s up units k d (omega (arith, each)) in
+          omega (arith, e, room_in_limit p s up units k limits fits (omega (arith, each)));
       spans = λ k d h. let w = limits.spans k d h in (w.0, omega (arith, w.1, each));
       rates = limits.rates;
       forecasts = limits.forecasts;
     }
 
-pub moved_rooms_keep_limits : (p : Program) (s : Span) (up : Bool) (units : ℕ) (rooms : List ℕ) → IsWithinLimits p → Fits p (Rooms s up units) → rooms ≡ rooms_moved p.rooms s up units →
+pub moved_rooms_keep_limits : (p : Program) (s : Span) (up : Bool) (units : ℕ) (rooms : List ℕ) → IsWithinLimits p → Fits p (Rooms s up units) →
+    rooms ≡ rooms_moved p.rooms s up units →
     IsWithinLimits (record { rooms = rooms; stays = p.stays })
 moved_rooms_keep_limits p s up units rooms limits fits e =
     let P : List ℕ → Type 0 = λ r. IsWithinLimits (record { rooms = r; stays = p.stays }) in subst P (sym e) (rooms_keep_limits p s up units limits fits)

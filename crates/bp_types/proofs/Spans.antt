@@ -52,5 +52,6 @@ part_is_fall u prices a b sums ordered within (suc m) =
           ]
     ]
 
-pub price_is_fall : (u : ℕ → ℕ) (prices : List ℕ) (s : Span) → AreSuffixSums u prices → s.from ≤ s.to → s.to ≤ length prices → price prices s + u s.to ≡ u s.from
+pub price_is_fall : (u : ℕ → ℕ) (prices : List ℕ) (s : Span) → AreSuffixSums u prices → s.from ≤ s.to → s.to ≤ length prices →
+    price prices s + u s.to ≡ u s.from
 price_is_fall u prices s sums ordered within = (part_is_fall u prices s.from s.to sums ordered within (length prices)).2 within

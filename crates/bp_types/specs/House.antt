@@ -1,5 +1,28 @@
 -- A house as it is opened: rooms and rooms sold by night, stays and the limits of the desk.
-use Rattle.std.specs.Prelude.{◌≡◌, ℕ, ◌*◌, ◌-◌, ◌≤◌, Bool, ◌==◌, ◌||◌, ◌&&◌, nat_lt, nat_le, if◌then◌else◌, IsTrue, List, length, map, slice_index, Option, Some, None, All, EachIndex}
+use Rattle.std.specs.Prelude.{
+  ◌≡◌,
+  ℕ,
+  ◌*◌,
+  ◌-◌,
+  ◌≤◌,
+  Bool,
+  ◌==◌,
+  ◌||◌,
+  ◌&&◌,
+  nat_lt,
+  nat_le,
+  if◌then◌else◌,
+  IsTrue,
+  List,
+  length,
+  map,
+  slice_index,
+  Option,
+  Some,
+  None,
+  All,
+  EachIndex,
+}
 use Rattle.std.specs.List.{find, range_with_len}
 use Rattle.std.specs.Option.{option_or, option_map}
 use Rattle.bp_types.specs.declared.stay.Stay.{Stay}

@@ -18,7 +18,8 @@ pub enum Change {
 pub(crate) fn move_rooms(rooms: &mut [u64], span: Span, up: bool, units: u64)
     requires ordered { span.from ≤ span.to }
     requires within { span.to ≤ length rooms.old }
-    requires fits { (n : ℕ) → span.from ≤ n → n < span.to → MatchBool up (slice_index rooms.old n + units < 2 ^ 64) (units ≤ slice_index rooms.old n) }
+    requires fits { (n : ℕ) → span.from ≤ n → n < span.to →
+        MatchBool up (slice_index rooms.old n + units < 2 ^ 64) (units ≤ slice_index rooms.old n) }
     ensures { rooms.new ≡ rooms_moved rooms.old span up units }
 {
     for night in span.from..span.to {

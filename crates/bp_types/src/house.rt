@@ -2,7 +2,17 @@ ghost use Rattle.std.specs.Prelude.{◌≡◌, ◌<◌, ◌-◌, ◌≤◌, leng
 ghost use Rattle.std.specs.List.{find, range_with_len};
 ghost use Rattle.bp_types.specs.declared.limits.TheConstants.{MOST_NIGHTS};
 ghost use Rattle.bp_types.specs.Program.{no_stay};
-ghost use Rattle.bp_types.specs.House.{Inn, IsHouse, house_refusal, limits_refusal, sold_refusal, is_from_one, is_oversold, units_left, opening};
+ghost use Rattle.bp_types.specs.House.{
+  Inn,
+  IsHouse,
+  house_refusal,
+  limits_refusal,
+  sold_refusal,
+  is_from_one,
+  is_oversold,
+  units_left,
+  opening,
+};
 ghost use Rattle.std.specs.Prelude.{slice_index_or};
 
 use crate::limits::{HUNDREDTHS, MOST_ENTRIES, MOST_PUBLICATIONS, MOST_ROOMS, MOST_STALE_AFTER};
@@ -50,7 +60,13 @@ impl Model for House {
 
     ghost view = { λ h. record { rooms = h.rooms.items; sold = h.sold.items; stays = h.stays.items; limits = h.limits } };
 
-    ghost invariant = { λ h. IsHouse (record { rooms = h.rooms.items; sold = h.sold.items; stays = h.stays.items; limits = h.limits }) };
+    ghost invariant = { λ h. IsHouse (record {
+      rooms = h.rooms.items;
+      sold = h.sold.items;
+      stays =
+          h.stays.items;
+      limits = h.limits;
+    }) };
 }
 
 impl House {
@@ -62,7 +78,8 @@ impl House {
         limits: Limits,
     ) -> Result<House, HouseError>
         ensures made { MatchResult result
-            (λ h. (h ≡ record { rooms = rooms.items; sold = sold.items; stays = stays.items; limits = limits }) × (house_refusal rooms.items sold.items stays.items limits ≡ None))
+            (λ h. (h ≡ record { rooms = rooms.items; sold = sold.items; stays = stays.items; limits = limits }) ×
+            (house_refusal rooms.items sold.items stays.items limits ≡ None))
             (λ e. house_refusal rooms.items sold.items stays.items limits ≡ Some e) }
     {
         match house_refusal_of(&rooms, &sold, &stays, limits) {

@@ -172,7 +172,11 @@ impl Instance {
     /// The forecast of a stay at the part of its rate above the price of its nights.
     fn surplus_value(&self, sums: &PriceSums, stay: usize) -> u128
         requires { stay < length self.now.stays }
-        ensures value { result ≡ (stay_at self.now stay).forecast * ((stay_at self.now stay).rate - (slice_index sums.now.sums (stay_at self.now stay).span.from - slice_index sums.now.sums (stay_at self.now stay).span.to)) }
+        ensures value { result ≡
+            (stay_at self.now stay).forecast *
+            ((stay_at self.now stay).rate -
+            (slice_index sums.now.sums (stay_at self.now stay).span.from - slice_index sums.now.sums
+            (stay_at self.now stay).span.to)) }
         ensures fits { result ≤ 2 ^ 50 }
     {
         let stay = self.stays[stay];

@@ -1,6 +1,17 @@
 //! Laws over the definitions, as the contracts of functions that do nothing.
 
-ghost use Rattle.bp_types.specs.Laws.{WeakDuality, CertificateIsOptimal, OptimumIsUnique, LeastPricesAreUnique, DisplacementIsUnique, CertificatesTellDisplacement, GainIsBelowPrice, PriceIsBelowLoss, ChangesAppend, FitsAppend};
+ghost use Rattle.bp_types.specs.Laws.{
+  WeakDuality,
+  CertificateIsOptimal,
+  OptimumIsUnique,
+  LeastPricesAreUnique,
+  DisplacementIsUnique,
+  CertificatesTellDisplacement,
+  GainIsBelowPrice,
+  PriceIsBelowLoss,
+  ChangesAppend,
+  FitsAppend,
+};
 
 /// No allocation, whole or fractional, is worth more than the bound of any prices.
 pub fn weak_duality()

@@ -3,6 +3,16 @@
 //! Nights are numbered from 0. Money is in minor units, rooms and forecasts are counted in units: one
 //! room is one unit, or a hundred where a house counts in hundredths. Source of the program, its dual
 //! and its use for bid prices: Talluri and van Ryzin, The Theory and Practice of Revenue Management, 2004.
+//!
+//! Three nights with 2, 1 and 2 rooms: an allocation is worth the rates of what it sells, and loads its
+//! nights.
+//!
+//! ```
+//! let sell = [1, 1, 0, 3];
+//! assert_eq!(rt; instance.worth(&sell), 370);
+//! assert_eq!(rt; instance.load(&sell, 0), 1);
+//! assert_eq!(rt; instance.load(&sell, 1), 2);
+//! ```
 #![tactic(auto)]
 
 mod certificate;

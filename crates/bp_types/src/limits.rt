@@ -54,6 +54,9 @@ pub const MOST_WORKERS: u32 = 16;
 /// Views of a screen, at most. A screen has 1 at least.
 pub const MOST_VIEWS: u32 = 16;
 
+/// Bytes of the code of a stay, at most. A code has 1 at least.
+pub const MOST_CODE: usize = 16;
+
 /// Scenarios of a text of changes, at most.
 pub const MOST_SCENARIOS: usize = 20_000;
 

@@ -18,7 +18,8 @@ pub fn catch_up<L: Ledger>(solver: &mut Solver, changes: &[Change], steps: &mut 
     ensures settled { IsSettled solver.new }
     ensures solved { IsSolved solver.new }
     ensures solvable { IsSolvable solver.new.flow.program }
-    ensures counted { CountsSearches steps.old steps.new solver.old.served solver.new.served (units_moved_by_all solver.old.flow.program changes.now + 1) }
+    ensures counted { CountsSearches steps.old steps.new solver.old.served solver.new.served
+        (units_moved_by_all solver.old.flow.program changes.now + 1) }
 {
     let mut made = 0;
     while made < changes.len() {
@@ -34,7 +35,8 @@ fn make_next<L: Ledger>(solver: &mut Solver, left: &[Change], steps: &mut Steps<
     requires some { 0 < length left.now }
     ensures made { (1 ≤ result) × (result ≤ length left.now) }
     ensures on_way { IsOnWay solver.old.flow.program left.now solver.new.flow.program (drop result left.now) }
-    ensures counted { CountsSearches steps.old steps.new solver.old.served solver.new.served (moved_so_far solver.old.flow.program left.now solver.new.flow.program (drop result left.now)) }
+    ensures counted { CountsSearches steps.old steps.new solver.old.served solver.new.served
+        (moved_so_far solver.old.flow.program left.now solver.new.flow.program (drop result left.now)) }
 {
     if let [
         Change::Rooms {
@@ -57,7 +59,8 @@ fn make_next<L: Ledger>(solver: &mut Solver, left: &[Change], steps: &mut Steps<
 fn make<L: Ledger>(solver: &mut Solver, change: Change, steps: &mut Steps<L>)
     requires { Fits solver.old.flow.program change }
     ensures program { solver.new.flow.program ≡ changed solver.old.flow.program change }
-    ensures counted { CountsSearches steps.old steps.new solver.old.served solver.new.served (units_moved solver.old.flow.program change) }
+    ensures counted { CountsSearches steps.old steps.new solver.old.served solver.new.served
+        (units_moved solver.old.flow.program change) }
 {
     match change {
         Change::Rooms {

@@ -20,7 +20,8 @@ pub fn answer<S: Shelf>(
     problem: &str,
     certificate: &str,
 ) -> Result<Verdict, Stop>
-    ensures { Brings (over S.held S.faults S.fetches S.last S.steady shelf.old shelf.new) (check_command problem.now certificate.now) result }
+    ensures { Brings (over S.held S.faults S.fetches S.last S.steady shelf.old shelf.new)
+        (check_command problem.now certificate.now) result }
 {
     let problem = load(alloc, shelf, &ProblemFile, 1, problem)?;
     let certificate = load(alloc, shelf, &CertificateFile, 2, certificate)?;

@@ -18,7 +18,8 @@ pub fn answer<S: Shelf>(
     stays: u32,
 ) -> Result<DemoText, Stop>
     requires { AreDemoNumbers seed nights rooms stays }
-    ensures { Brings (over S.held S.faults S.fetches S.last S.steady _shelf.old _shelf.new) (demo_command seed nights rooms stays) result }
+    ensures { Brings (over S.held S.faults S.fetches S.last S.steady _shelf.old _shelf.new)
+        (demo_command seed nights rooms stays) result }
 {
     Ok(bp_demo::demo(alloc, seed, nights, rooms, stays)?)
 }

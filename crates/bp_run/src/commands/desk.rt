@@ -28,7 +28,8 @@ pub fn load_desk<S: Shelf>(
     script: &str,
 ) -> Result<Staged, Stop>
     requires { first + 5 < 2 ^ 64 }
-    ensures { Follows (over S.held S.faults S.fetches S.last S.steady shelf.old shelf.new) (desk_plan (named hotel.now) script.now) first (first + 5) result }
+    ensures { Follows (over S.held S.faults S.fetches S.last S.steady shelf.old shelf.new)
+        (desk_plan (named hotel.now) script.now) first (first + 5) result }
 {
     let open = load_house(alloc, shelf, first, hotel)?;
     let file = ScriptFile {
@@ -50,7 +51,8 @@ pub fn answer<R: Wait + Threads + Sync, S: Shelf, G: Gate>(
     gate: &G,
 ) -> Result<Ran, Stop>
     requires { workers ≤ MOST_WORKERS }
-    ensures { Brings (over S.held S.faults S.fetches S.last S.steady shelf.old shelf.new) (desk_command (named hotel.now) script.now workers) result }
+    ensures { Brings (over S.held S.faults S.fetches S.last S.steady shelf.old shelf.new)
+        (desk_command (named hotel.now) script.now workers) result }
 {
     let staged = load_desk(alloc, shelf, 1, hotel, script)?;
     Ok(staged.run(rt, alloc, workers, 0, gate)?)

@@ -43,7 +43,8 @@ pub fn answer<S: Shelf>(
     span: Span,
     rooms: u64,
 ) -> Result<GroupAnswer, Stop>
-    ensures { Brings (over S.held S.faults S.fetches S.last S.steady shelf.old shelf.new) (group_command problem.now span rooms) result }
+    ensures { Brings (over S.held S.faults S.fetches S.last S.steady shelf.old shelf.new)
+        (group_command problem.now span rooms) result }
 {
     let instance = load(alloc, shelf, &ProblemFile, 1, problem)?;
     Ok(group_answer(alloc, &instance, span, rooms)?)

@@ -36,7 +36,8 @@ pub fn answer<S: Shelf>(
     problem: &str,
     journal: &str,
 ) -> Result<Ruling, Stop>
-    ensures { Brings (over S.held S.faults S.fetches S.last S.steady shelf.old shelf.new) (ruling_command (judge_plan problem.now journal.now)) result }
+    ensures { Brings (over S.held S.faults S.fetches S.last S.steady shelf.old shelf.new)
+        (ruling_command (judge_plan problem.now journal.now)) result }
 {
     let problem = load(alloc, shelf, &ProblemFile, 1, problem)?;
     let journal = load(alloc, shelf, &JournalFile, 2, journal)?;
@@ -51,7 +52,8 @@ pub fn replay<S: Shelf>(
     hotel: &HotelFiles<'_>,
     journal: &str,
 ) -> Result<Ruling, Stop>
-    ensures { Brings (over S.held S.faults S.fetches S.last S.steady shelf.old shelf.new) (ruling_command (replay_plan (named hotel.now) journal.now)) result }
+    ensures { Brings (over S.held S.faults S.fetches S.last S.steady shelf.old shelf.new)
+        (ruling_command (replay_plan (named hotel.now) journal.now)) result }
 {
     let open = load_house(alloc, shelf, 1, hotel)?;
     let journal = load(alloc, shelf, &JournalFile, 5, journal)?;

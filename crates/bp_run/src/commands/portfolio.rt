@@ -1,5 +1,20 @@
 //! `portfolio LIST [--workers W]`: the desks of several hotels beside one another.
-ghost use Rattle.std.specs.Prelude.{◌≡◌, ◌+◌, ◌*◌, ◌<◌, ◌≤◌, ◌^◌, ◌++◌, ◌∷◌, [], length, IfOk, IsErrOf, OnOk, string_bytes};
+ghost use Rattle.std.specs.Prelude.{
+  ◌≡◌,
+  ◌+◌,
+  ◌*◌,
+  ◌<◌,
+  ◌≤◌,
+  ◌^◌,
+  ◌++◌,
+  ◌∷◌,
+  [],
+  length,
+  IfOk,
+  IsErrOf,
+  OnOk,
+  string_bytes,
+};
 ghost use Rattle.std.specs.List.{list_all};
 ghost use Rattle.bp_desk_run.specs.declared.callers.Ran.{Ran as RanValue};
 ghost use Rattle.bp_types.specs.declared.limits.TheConstants.{MOST_HOTELS, MOST_WORKERS};
@@ -10,7 +25,16 @@ ghost use Rattle.bp_run.specs.Fetches.{over};
 ghost use Rattle.bp_run.specs.Stops.{Follows, of_all};
 ghost use Rattle.bp_run.specs.Command.{Brings};
 ghost use Rattle.bp_run.specs.HotelPlan.{named};
-ghost use Rattle.bp_run.specs.Portfolio.{desks_plan, four_names, hotel_head, hotel_said, hotels_said, portfolio_command, runs_said, runs_status};
+ghost use Rattle.bp_run.specs.Portfolio.{
+  desks_plan,
+  four_names,
+  hotel_head,
+  hotel_said,
+  hotels_said,
+  portfolio_command,
+  runs_said,
+  runs_status,
+};
 ghost use Rattle.bp_run.specs.Puts.{onto, PutsText};
 
 use crate::Status;
@@ -77,7 +101,8 @@ fn load_desks<S: Shelf>(
 ) -> Result<(), Stop>
     requires { first + 5 * length names.now < 2 ^ 64 }
     ensures count { OnOk result (length hotels.new.items ≡ length hotels.old.items + length names.now) }
-    ensures follows { Follows (over S.held S.faults S.fetches S.last S.steady shelf.old shelf.new) (desks_plan hotels.old.items names.now) first (first + 5 * length names.now) (of_all hotels.new.items result) }
+    ensures follows { Follows (over S.held S.faults S.fetches S.last S.steady shelf.old shelf.new)
+        (desks_plan hotels.old.items names.now) first (first + 5 * length names.now) (of_all hotels.new.items result) }
 {
     let Some((next, behind)) = names.split_first() else {
         return Ok(());
@@ -105,7 +130,8 @@ fn all_run<R: Wait + Threads + Sync, G: Gate>(
     Ok(Runs { list })
 }
 
-/// Reads a list and the files of all its hotels in order, and then runs their desks beside one another, each with so many
+/// Reads a list and the files of all its hotels in order, and then runs their desks beside one another, each with so
+/// many
 /// optimisers.
 pub fn answer<R: Wait + Threads + Sync, S: Shelf, G: Gate>(
     rt: &R,
@@ -116,7 +142,8 @@ pub fn answer<R: Wait + Threads + Sync, S: Shelf, G: Gate>(
     gate: &G,
 ) -> Result<Runs, Stop>
     requires { workers ≤ MOST_WORKERS }
-    ensures { Brings (over S.held S.faults S.fetches S.last S.steady shelf.old shelf.new) (portfolio_command list.now workers) result }
+    ensures { Brings (over S.held S.faults S.fetches S.last S.steady shelf.old shelf.new)
+        (portfolio_command list.now workers) result }
 {
     let names = load(alloc, shelf, &ListFile, 1, list)?;
     let mut hotels = Vec::new(alloc);

@@ -38,7 +38,8 @@ pub fn answer<S: Shelf>(
     hotel: &HotelFiles<'_>,
     journal: &str,
 ) -> Result<ReportAnswer, Stop>
-    ensures { Brings (over S.held S.faults S.fetches S.last S.steady shelf.old shelf.new) (report_command (named hotel.now) journal.now) result }
+    ensures { Brings (over S.held S.faults S.fetches S.last S.steady shelf.old shelf.new)
+        (report_command (named hotel.now) journal.now) result }
 {
     let open = load_house(alloc, shelf, 1, hotel)?;
     let journal = load(alloc, shelf, &JournalFile, 5, journal)?;

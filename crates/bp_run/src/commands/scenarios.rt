@@ -50,7 +50,8 @@ pub fn answer<R: Threads + Sync, S: Shelf>(
     problem: &str,
     changes: &str,
 ) -> Result<Outcomes, Stop>
-    ensures { Brings (over S.held S.faults S.fetches S.last S.steady shelf.old shelf.new) (scenarios_command problem.now changes.now) result }
+    ensures { Brings (over S.held S.faults S.fetches S.last S.steady shelf.old shelf.new)
+        (scenarios_command problem.now changes.now) result }
 {
     let base = load(alloc, shelf, &ProblemFile, 1, problem)?;
     let file = ScenariosFile { problem: &base };
@@ -72,12 +73,23 @@ fn foreseen<R: Threads + Sync>(
     Ok(Outcomes { list })
 }
 
-/// The outcome of each list of changes, one after another.
-pub(crate) fn foreseen_alone(
+/// Reads a problem and scenarios of it, and answers each after the one before it. It starts no thread.
+pub fn answer_alone<S: Shelf>(
     alloc: Global,
-    base: &Instance,
-    lists: &WhatIfLists,
-) -> Result<Outcomes, Memory>
+    shelf: &mut S,
+    problem: &str,
+    changes: &str,
+) -> Result<Outcomes, Stop>
+    ensures { Brings (over S.held S.faults S.fetches S.last S.steady shelf.old shelf.new)
+        (scenarios_command problem.now changes.now) result }
+{
+    let base = load(alloc, shelf, &ProblemFile, 1, problem)?;
+    let lists = load(alloc, shelf, &ScenariosFile { problem: &base }, 2, changes)?;
+    Ok(foreseen_alone(alloc, &base, &lists)?)
+}
+
+// The outcome of each list of changes, one after another.
+fn foreseen_alone(alloc: Global, base: &Instance, lists: &WhatIfLists) -> Result<Outcomes, Memory>
     requires { All (IsAskable base.now) lists.now }
     ensures { IfOk result (λ o. AllZip (IsOutcome base.now) lists.now o) }
 {

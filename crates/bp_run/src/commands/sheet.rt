@@ -12,7 +12,8 @@ use std::alloc::Global;
 
 /// Reads the problem and makes its sheet.
 pub fn answer<S: Shelf>(alloc: Global, shelf: &mut S, problem: &str) -> Result<SheetText, Stop>
-    ensures { Brings (over S.held S.faults S.fetches S.last S.steady shelf.old shelf.new) (sheet_command problem.now) result }
+    ensures { Brings (over S.held S.faults S.fetches S.last S.steady shelf.old shelf.new) (sheet_command problem.now)
+        result }
 {
     let instance = load(alloc, shelf, &ProblemFile, 1, problem)?;
     Ok(sheet_of(alloc, &instance)?)

@@ -17,7 +17,8 @@ use std::sync::ledger::{Blank, Ledger};
 
 /// Reads the problem and solves it.
 pub fn answer<S: Shelf>(alloc: Global, shelf: &mut S, problem: &str) -> Result<Certificate, Stop>
-    ensures { Brings (over S.held S.faults S.fetches S.last S.steady shelf.old shelf.new) (solve_command problem.now) result }
+    ensures { Brings (over S.held S.faults S.fetches S.last S.steady shelf.old shelf.new) (solve_command problem.now)
+        result }
 {
     let instance = load(alloc, shelf, &ProblemFile, 1, problem)?;
     Ok(least_certificate(alloc, &instance)?)

@@ -5,6 +5,7 @@ ghost use Rattle.bp_hotelfile.specs.Numbers.{number};
 ghost use Rattle.bp_stayfile.specs.Fields.{without_front, stripped, number_of, is_code_byte, is_code};
 
 use bp_text::Number;
+use bp_types::limits::MOST_CODE;
 
 /// The text without the spaces at its front.
 fn without_front(text: &str) -> &str
@@ -73,9 +74,9 @@ fn are_code_bytes(bytes: &[u8]) -> bool
     bytes.iter().all(|byte| is_code_byte(*byte))
 }
 
-/// Whether a text may be a stay's code: 1 to 16 letters of ASCII, digits, dots, underscores and dashes.
+/// Whether a text may be a stay's code: 1 to `MOST_CODE` letters of ASCII, digits, dots, underscores and dashes.
 pub fn is_code(text: &str) -> bool
     ensures { result ≡ is_code text.now }
 {
-    1 <= text.len() && text.len() <= 16 && are_code_bytes(text.as_bytes())
+    1 <= text.len() && text.len() <= MOST_CODE && are_code_bytes(text.as_bytes())
 }

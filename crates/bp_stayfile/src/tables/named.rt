@@ -1,7 +1,16 @@
 ghost use Rattle.std.specs.Prelude.{◌≡◌, ◌<◌, true, List, length, None, IfOk, IfErr, IsTrue, Err};
 ghost use Rattle.csv.specs.Records.{fields_of};
 ghost use Rattle.bp_stayfile.specs.Refusals.{IfRefused};
-ghost use Rattle.bp_stayfile.specs.Tables.{Record, IsHeaderOf, is_text, place_of, lacking, places_of, table_under, table_of};
+ghost use Rattle.bp_stayfile.specs.Tables.{
+  Record,
+  IsHeaderOf,
+  is_text,
+  place_of,
+  lacking,
+  places_of,
+  table_under,
+  table_of,
+};
 
 use super::reading::{field_at, is_text, next_record, reader_of};
 use super::row::Row;
@@ -59,7 +68,8 @@ fn places_under(
     ensures all { IfOk result (λ v. lacking (fields_of header.now) columns.now ≡ None) }
     ensures places { IfOk result (λ v. v.items ≡ places_of (fields_of header.now) columns.now) }
     ensures refused { IfErr result
-        (λ e. IfRefused e (λ r. (records : List Record) → table_under columns.now (fields_of header.now) records ≡ Err r)) }
+        (λ e. IfRefused e (λ r. (records : List Record) →
+        table_under columns.now (fields_of header.now) records ≡ Err r)) }
 {
     if !is_text(header) {
         return Err(TableError::Refused(TableRefusal::NotCsv { line: 1 }));

@@ -1,5 +1,9 @@
 use Rattle.bp_c.proofs.Held.{judge_there}
+use Rattle.bp_c.proofs.Lines.{judge_asked}
 use Rattle.bp_c.proofs.texts.bidprice_judge.Goals as goal
 
-pub answered-requires-clause-there : goal.answered-requires-clause-there
-answered-requires-clause-there c = judge_there c.tasks_are_unique.ensures _ _ _ _ c.in-Ok.ensures.words c.in-Ok.ensures.files
+pub reply_to_two-requires-clause-there : goal.reply_to_two-requires-clause-there
+reply_to_two-requires-clause-there c = judge_there _ _ _ _ c.new.ensures c.new-2.ensures
+
+pub returns : goal.returns
+returns c = c.reply_to_two.ensures _ (judge_asked _ _ c.new.ensures c.new-2.ensures)

@@ -1,5 +1,9 @@
 use Rattle.bp_c.proofs.Held.{sheet_there}
+use Rattle.bp_c.proofs.Lines.{sheet_asked}
 use Rattle.bp_c.proofs.texts.bidprice_sheet.Goals as goal
 
-pub answered-requires-clause-there : goal.answered-requires-clause-there
-answered-requires-clause-there c = sheet_there c.tasks_are_unique.ensures _ _ _ c.in-Ok.ensures.words c.in-Ok.ensures.files
+pub reply_to_one-requires-clause-there : goal.reply_to_one-requires-clause-there
+reply_to_one-requires-clause-there c = sheet_there _ _ c.new.ensures
+
+pub returns : goal.returns
+returns c = c.reply_to_one.ensures _ (sheet_asked _ c.new.ensures)

@@ -25,11 +25,13 @@ returns-in_err-push_line-clause-writes g c =
 pub returns-in_err-draft_claim-clause-writes : goal.returns-in_err-draft_claim-clause-writes
 returns-in_err-draft_claim-clause-writes g c =
     let certificate = c.args.certificate.now in
-    second_of_three _ _ _ c.args.draft.now c.push_line.new.self _ first_text (text_of (claim_lines certificate)) last_text _ _ (certificate_in_three certificate)
+    second_of_three _ _ _ c.args.draft.now c.push_line.new.self _ first_text (text_of (claim_lines certificate)) last_text _ _
+    (certificate_in_three certificate)
     c.from_residual-in_err-draft_claim.ensures.0 c.in_ok-push_line.ensures.writes c.in_err-draft_claim.ensures.writes
 
 pub returns-clause-writes : goal.returns-clause-writes
 returns-clause-writes g c =
     let certificate = c.args.certificate.now in
-    all_three _ _ _ _ c.args.draft.now c.push_line.new.self c.draft_claim.new.draft _ first_text (text_of (claim_lines certificate)) last_text _ _ (certificate_in_three certificate)
+    all_three _ _ _ _ c.args.draft.now c.push_line.new.self c.draft_claim.new.draft _ first_text (text_of (claim_lines certificate)) last_text _ _
+    (certificate_in_three certificate)
     c.in_ok-push_line.ensures.writes c.in_ok-draft_claim.ensures.writes c.push_line-2.ensures.writes

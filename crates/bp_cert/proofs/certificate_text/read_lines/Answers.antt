@@ -20,4 +20,5 @@ returns-in_err-word_line-2 c =
     let p = err_from_is_err_and c.from_residual-in_err-word_line-2.result c.from_residual-in_err-word_line-2.ensures.1 in
     let first = one_more_line _ _ _ _ _ (no_lines c.args.lines.now) c.in_ok-word_line.ensures.2 in
     let spells = c.in_ok-certificate.ensures.read in
-    rw (p.1, p.2) (refused_at all_certificate_lines IsSpeakable _ _ _ _ _ _ _ _ (stage_end c.in_ok-certificate.certificate spells.within) (more_lines _ _ _ _ _ first spells.gives) c.in_err-word_line-2.ensures)
+    rw (p.1, p.2) (refused_at all_certificate_lines IsSpeakable _ _ _ _ _ _ _ _ (stage_end c.in_ok-certificate.certificate spells.within)
+    (more_lines _ _ _ _ _ first spells.gives) c.in_err-word_line-2.ensures)

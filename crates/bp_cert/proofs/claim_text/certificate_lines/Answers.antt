@@ -14,7 +14,8 @@ pub returns-in_err-open_line-clause-read : goal.returns-in_err-open_line-clause-
 returns-in_err-open_line-clause-read c =
     let p = err_from_is_err_and c.from_residual-in_err-open_line.result c.from_residual-in_err-open_line.ensures.1 in
     let first = one_more_line _ _ _ _ _ (no_lines c.args.lines.now) c.in_ok-value.ensures.2 in
-    rw (p.1, p.2) (refused_at claim_lines IsSpeakable _ _ _ _ _ _ _ _ (stage_sell c.in_ok-value.value (c.in_ok-value.ensures.1 0 0 (omega arith))) first c.in_err-open_line.ensures)
+    rw (p.1, p.2) (refused_at claim_lines IsSpeakable _ _ _ _ _ _ _ _ (stage_sell c.in_ok-value.value (c.in_ok-value.ensures.1 0 0 (omega arith)))
+    first c.in_err-open_line.ensures)
 
 pub returns-in_err-open_line-2-clause-read : goal.returns-in_err-open_line-2-clause-read
 returns-in_err-open_line-2-clause-read c =
@@ -22,7 +23,8 @@ returns-in_err-open_line-2-clause-read c =
     let first = one_more_line _ _ _ _ _ (no_lines c.args.lines.now) c.in_ok-value.ensures.2 in
     let sell : List ℕ = c.open_line.new.into.items in
     let second = one_more_line _ _ _ _ _ first c.in_ok-open_line.ensures.2 in
-    rw (p.1, p.2) (refused_at claim_lines IsSpeakable _ _ _ _ _ _ _ _ (stage_prices c.in_ok-value.value sell (c.in_ok-value.ensures.1 0 0 (omega arith)) c.in_ok-open_line.ensures.1) second c.in_err-open_line-2.ensures)
+    rw (p.1, p.2) (refused_at claim_lines IsSpeakable _ _ _ _ _ _ _ _
+    (stage_prices c.in_ok-value.value sell (c.in_ok-value.ensures.1 0 0 (omega arith)) c.in_ok-open_line.ensures.1) second c.in_err-open_line-2.ensures)
 
 pub returns-clause-read : goal.returns-clause-read
 returns-clause-read c =

@@ -27,20 +27,25 @@ claim_in_three c value sell prices s p seen same_sell same_prices =
 pub returns-in_err-push_line-clause-writes : goal.returns-in_err-push_line-clause-writes
 returns-in_err-push_line-clause-writes g c =
     let certificate = c.certificate.inside in
-    let three = claim_in_three c.args.certificate.now certificate.value certificate.sell.items certificate.prices.items c.deref.result.now certificate.prices.items c.certificate.view_is c.deref.ensures.value refl in
-    second_of_three _ _ _ c.args.draft.now c.push_wide_line.new.self _ (value_text certificate.value) (sell_text c.deref.result.now) (prices_text certificate.prices.items) _ _ three
+    let three = claim_in_three c.args.certificate.now certificate.value certificate.sell.items certificate.prices.items c.deref.result.now
+    certificate.prices.items c.certificate.view_is c.deref.ensures.value refl in
+    second_of_three _ _ _ c.args.draft.now c.push_wide_line.new.self _ (value_text certificate.value) (sell_text c.deref.result.now)
+    (prices_text certificate.prices.items) _ _ three
     c.from_residual-in_err-push_line.ensures.0 c.in_ok-push_wide_line.ensures.writes c.in_err-push_line.ensures.writes
 
 pub returns-in_err-push_wide_line-clause-writes : goal.returns-in_err-push_wide_line-clause-writes
 returns-in_err-push_wide_line-clause-writes g c =
     let certificate = c.certificate.inside in
-    let three = claim_in_three c.args.certificate.now certificate.value certificate.sell.items certificate.prices.items certificate.sell.items certificate.prices.items c.certificate.view_is refl refl in
+    let three = claim_in_three c.args.certificate.now certificate.value certificate.sell.items certificate.prices.items certificate.sell.items
+    certificate.prices.items c.certificate.view_is refl refl in
     first_of_three _ _ c.args.draft.now _ (value_text certificate.value) (sell_text certificate.sell.items) (prices_text certificate.prices.items) _ _ three
     c.from_residual.ensures.0 c.in_err-push_wide_line.ensures.writes
 
 pub returns-clause-writes : goal.returns-clause-writes
 returns-clause-writes g c =
     let certificate = c.certificate.inside in
-    let three = claim_in_three c.args.certificate.now certificate.value certificate.sell.items certificate.prices.items c.deref.result.now c.deref-2.result.now c.certificate.view_is c.deref.ensures.value c.deref-2.ensures.value in
-    all_three _ _ _ _ c.args.draft.now c.push_wide_line.new.self c.push_line.new.self _ (value_text certificate.value) (sell_text c.deref.result.now) (prices_text c.deref-2.result.now) _ _ three
+    let three = claim_in_three c.args.certificate.now certificate.value certificate.sell.items certificate.prices.items c.deref.result.now
+    c.deref-2.result.now c.certificate.view_is c.deref.ensures.value c.deref-2.ensures.value in
+    all_three _ _ _ _ c.args.draft.now c.push_wide_line.new.self c.push_line.new.self _ (value_text certificate.value) (sell_text c.deref.result.now)
+    (prices_text c.deref-2.result.now) _ _ three
     c.in_ok-push_wide_line.ensures.writes c.in_ok-push_line.ensures.writes c.push_line-2.ensures.writes

@@ -3,4 +3,5 @@ use Rattle.bp_cert.proofs.claim_text.write_certificate_lines.Goals as goal
 
 pub returns-clause-writes : goal.returns-clause-writes
 returns-clause-writes g c =
-    all_new_written _ _ _ c.in_ok-draft.draft c.draft_claim.new.draft _ c.hand_on.result c.in_ok-draft.ensures c.in_ok-draft_claim.ensures.writes c.hand_on.ensures.writes
+    all_new_written _ _ _ c.in_ok-draft.draft c.draft_claim.new.draft _ c.hand_on.result c.in_ok-draft.ensures c.in_ok-draft_claim.ensures.writes
+    c.hand_on.ensures.writes

@@ -48,7 +48,15 @@ returns c =
     let nights = c.in_ok-nights.ensures.1 0 0 (omega arith) in
     let count = c.in_ok-stays.ensures.1 0 0 (omega arith) in
     let each : length rooms ≡ n = c.in_ok-exact_line.ensures.0 in
-    let P : ℕ → Type 0 = λ m. GivesLines c.args.lines.now c.number_line-2.new.lines (codes "problem 1" ∷ line_of (codes "nights") (m ∷ []) ∷ line_of (codes "rooms") rooms ∷ line_of (codes "stays") (k ∷ []) ∷ []) c.number_line-2.new.lines.rest in (
-      record { some_night = omega (arith, nights.0, each); nights = omega (arith, nights.1, each); few_rooms = c.in_ok-exact_line.ensures.1.1; few_stays = count.1 },
+    let P : ℕ → Type 0 = λ m. GivesLines c.args.lines.now c.number_line-2.new.lines
+    (codes "problem 1" ∷ line_of (codes "nights") (m ∷ []) ∷ line_of (codes "rooms") rooms ∷ line_of (codes "stays") (k ∷ []) ∷ [])
+    c.number_line-2.new.lines.rest in (
+      record {
+        some_night = omega (arith, nights.0, each);
+        nights = omega (arith, nights.1, each);
+        few_rooms = c.in_ok-exact_line.ensures.1.1;
+        few_stays =
+            count.1;
+      },
       subst P (sym each) fourth.gives,
     )

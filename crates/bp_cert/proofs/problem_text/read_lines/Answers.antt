@@ -11,7 +11,8 @@ use Rattle.bp_cert.proofs.problem_text.read_lines.Goals as goal
 pub returns-in_err-stays : goal.returns-in_err-stays
 returns-in_err-stays c =
     let p = err_from_is_err_and c.from_residual-in_err-stays.result c.from_residual-in_err-stays.ensures.1 in
-    let P : List ℕ → Type 0 = λ rooms. GivesLines c.args.lines.now c.read_head.new.lines (head_lines rooms c.in_ok-head.head.stays) c.read_head.new.lines.rest in
+    let P : List ℕ → Type 0 =
+    λ rooms. GivesLines c.args.lines.now c.read_head.new.lines (head_lines rooms c.in_ok-head.head.stays) c.read_head.new.lines.rest in
     rw (p.1, p.2) (c.in_err-stays.ensures c.args.lines.now (subst P (sym c.deref.ensures.value) c.in_ok-head.ensures.1))
 
 pub returns-in_err-word_line : goal.returns-in_err-word_line

@@ -10,4 +10,5 @@ pub returns-in_err-at_end : goal.returns-in_err-at_end
 returns-in_err-at_end c =
     let p = err_from_is_err_and c.from_residual-in_err-at_end.result c.from_residual-in_err-at_end.ensures.1 in
     let P : Given → Type 0 = λ g. Spells problem_lines IsProblem g c.read_lines.new.lines c.in_ok-instance.instance in
-    rw (p.1, p.2) (trailed_text problem_lines IsProblem c.args.bytes.now c.read_lines.new.lines c.in_ok-instance.instance _ (subst P c.new-lines.ensures c.in_ok-instance.ensures) c.in_err-at_end.ensures.0 c.in_err-at_end.ensures.1)
+    rw (p.1, p.2) (trailed_text problem_lines IsProblem c.args.bytes.now c.read_lines.new.lines c.in_ok-instance.instance _
+    (subst P c.new-lines.ensures c.in_ok-instance.ensures) c.in_err-at_end.ensures.0 c.in_err-at_end.ensures.1)

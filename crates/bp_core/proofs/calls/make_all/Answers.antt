@@ -24,9 +24,12 @@ loop-made-preserved c = record {
       let P : List Answer → Type 0 = λ l. AreAnswered c.args.book.now new c.args.calls.items l in
       let Q : List Made → Type 0 = λ l. AreAnswered c.loop-made.book new l (c.act-answer.result ∷ more) in
       let next : into_iter_items c.loop-made.made-iterator ≡ c.in-Some.made ∷ into_iter_items c.next.new.self = search rules in
-      let pushed : c.push_reserved.new.self.items ++ more ≡ c.loop-made.answers.items ++ c.act-answer.result ∷ more = ap (λ l. l ++ more) c.push_reserved.ensures.items ∙ append_assoc c.loop-made.answers.items (c.act-answer.result ∷ []) more in
-      subst P (sym pushed) (c.loop-made.invariant.goes_on new (c.act-answer.result ∷ more) (subst Q (sym next) (c.act-answer.new.self, c.act-answer.ensures.answered, after)));
-  continues = continues_further c.args.book.now c.loop-made.book c.act-answer.new.self c.loop-made.invariant.continues (answered_continues c.loop-made.book c.act-answer.new.self c.in-Some.made.caller c.in-Some.made.call c.act-answer.result c.act-answer.ensures.answered);
+      let pushed : c.push_reserved.new.self.items ++ more ≡ c.loop-made.answers.items ++ c.act-answer.result ∷ more =
+      ap (λ l. l ++ more) c.push_reserved.ensures.items ∙ append_assoc c.loop-made.answers.items (c.act-answer.result ∷ []) more in
+      subst P (sym pushed) (c.loop-made.invariant.goes_on new (c.act-answer.result ∷ more)
+      (subst Q (sym next) (c.act-answer.new.self, c.act-answer.ensures.answered, after)));
+  continues = continues_further c.args.book.now c.loop-made.book c.act-answer.new.self c.loop-made.invariant.continues
+      (answered_continues c.loop-made.book c.act-answer.new.self c.in-Some.made.caller c.in-Some.made.call c.act-answer.result c.act-answer.ensures.answered);
   legal = search rules;
   room = search rules;
 }

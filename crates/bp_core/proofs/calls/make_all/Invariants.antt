@@ -11,7 +11,8 @@ use Rattle.bp_core.proofs.calls.make_all.Given as goal
 abbrev pub invariant-loop-made : goal.invariant-loop-made
 invariant-loop-made l = record {
   may : MayMakeAll l.book (into_iter_items l.made-iterator);
-  goes_on : (new : Diary) (more : List Answer) → AreAnswered l.book new (into_iter_items l.made-iterator) more → AreAnswered l.fn.book new l.fn.calls.items (l.answers.items ++ more);
+  goes_on : (new : Diary) (more : List Answer) → AreAnswered l.book new (into_iter_items l.made-iterator) more →
+      AreAnswered l.fn.book new l.fn.calls.items (l.answers.items ++ more);
   continues : Continues l.fn.book l.book;
   legal : IsLegal l.book.house l.book.history;
   room : vec_len l.answers + into_iter_len l.made-iterator ≤ vec_capacity l.answers;

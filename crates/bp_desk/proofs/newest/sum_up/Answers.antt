@@ -11,5 +11,6 @@ loop-night-preserved c =
     let span : Span = record { from = night; to = length c.args.sums.now - 1 } in
     let is : c.price.result ≡ price prices span = c.price.ensures in (
       omega (arith, long, length-set {A = ℕ}),
-      one_more prices sums night c.price.result (omega (arith, same)) (is ∙ price_to_last prices span (omega arith) (omega (arith, long, same))) c.loop-night.invariant.1,
+      one_more prices sums night c.price.result (omega (arith, same)) (is ∙
+          price_to_last prices span (omega arith) (omega (arith, long, same))) c.loop-night.invariant.1,
     )

@@ -12,6 +12,7 @@ abbrev pub invariant-loop-i : goal.invariant-loop-i
 invariant-loop-i l =
     (l.opener ≡ l.initial.opener)
     × ((house : Inn) (sessions : ℕ) → AreReady l.desk house sessions l.initial.opener.seen l.initial.actors
-    → ((c : ℕ) (a : Actor) → 1 ≤ c → c ≤ length l.initial.actors → IsReady l.desk house sessions c l.initial.opener.seen (slice_index_or l.actors (length l.initial.actors - c) a))
+    → ((c : ℕ) (a : Actor) → 1 ≤ c → c ≤ length l.initial.actors →
+    IsReady l.desk house sessions c l.initial.opener.seen (slice_index_or l.actors (length l.initial.actors - c) a))
     × ((c : ℕ) → 1 ≤ c → c ≤ l.i → calls l.initial.opener.seen c ≡ line_of c Enrol Done ∷ []))
     × KeepCommands l.initial.actors l.actors

@@ -9,5 +9,6 @@ pub returns : goal.returns
 returns g c =
     let b = c.requires.back in
     let q = c.round.new.pass in
-    closed_after_round b.0 c.round.new.self.position c.args.pass q c.in_ok-round.round c.close.result b.1 c.facts.ensures.accounts c.facts-2.ensures.accounts c.in_ok-round.ensures.round c.close.ensures.house c.close.ensures.begins c.close.ensures.legal
+    closed_after_round b.0 c.round.new.self.position c.args.pass q c.in_ok-round.round c.close.result b.1 c.facts.ensures.accounts c.facts-2.ensures.accounts
+    c.in_ok-round.ensures.round c.close.ensures.house c.close.ensures.begins c.close.ensures.legal
     c.close.ensures.accounts

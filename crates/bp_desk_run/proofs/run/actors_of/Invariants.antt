@@ -8,4 +8,5 @@ abbrev pub invariant-loop-i : goal.invariant-loop-i
 invariant-loop-i l = (length l.actors.items ≡ l.i) × AreFirst l.scripts.items l.workers l.actors.items
 
 abbrev pub invariant-loop-j : goal.invariant-loop-j
-invariant-loop-j l = (length l.actors.items ≡ l.workers + l.j) × (length l.scripts.items + l.j ≡ length l.initial.scripts.items) × IsPrefix l.scripts.items l.initial.scripts.items × AreFirst l.initial.scripts.items l.workers l.actors.items
+invariant-loop-j l = (length l.actors.items ≡ l.workers + l.j) × (length l.scripts.items + l.j ≡ length l.initial.scripts.items) ×
+    IsPrefix l.scripts.items l.initial.scripts.items × AreFirst l.initial.scripts.items l.workers l.actors.items

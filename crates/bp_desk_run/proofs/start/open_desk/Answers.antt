@@ -10,5 +10,9 @@ pub returns : goal.returns
 returns c =
     let b = arc_value c.in-Ok.board in
     let is : b ≡ record { position = 0; certificate = c.in_ok-certificate.certificate } = search rules in
-    let least : AreLeastPrices c.args.solver.now.flow.program b.certificate.prices = subst (λ (p : Posted). AreLeastPrices c.args.solver.now.flow.program p.certificate.prices) (sym is) (c.in_ok-certificate.ensures.least c.requires.solver.1).least in
-    ok_weaker _ _ c.new-3.result (λ r e. (opening_line b, opens_with c.args.house b c.args.solver.now.flow.program (ap (λ (p : Posted). p.position) is) c.requires.solver.0 least, e)) c.new-3.ensures
+    let least : AreLeastPrices c.args.solver.now.flow.program b.certificate.prices =
+    subst (λ (p : Posted). AreLeastPrices c.args.solver.now.flow.program p.certificate.prices) (sym is)
+    (c.in_ok-certificate.ensures.least c.requires.solver.1).least in
+    ok_weaker _ _ c.new-3.result
+    (λ r e. (opening_line b, opens_with c.args.house b c.args.solver.now.flow.program (ap (λ (p : Posted). p.position) is) c.requires.solver.0 least, e))
+    c.new-3.ensures

@@ -16,7 +16,8 @@ returns-clause-slack c = moved_slack c.args.flow.now c.move_rooms.new.self c.arg
 
 pub returns-clause-imbalance : goal.returns-clause-imbalance
 returns-clause-imbalance c =
-    rise_imbalance c.args.flow.now c.move_rooms.new.self c.args.span c.args.units (omega (arith, c.requires.fits.0)) c.requires.solved.balanced c.move_rooms.ensures
+    rise_imbalance c.args.flow.now c.move_rooms.new.self c.args.span c.args.units (omega (arith, c.requires.fits.0))
+    c.requires.solved.balanced c.move_rooms.ensures
 
 pub returns-clause-few : goal.returns-clause-few
 returns-clause-few c = omega (arith, c.requires.fits.1 c.args.span.from (omega arith) (omega (arith, c.requires.fits.0)))

@@ -16,10 +16,15 @@ returns-clause-slack c = moved_slack c.args.flow.now c.move_rooms.new.self c.arg
 
 pub returns-clause-imbalance : goal.returns-clause-imbalance
 returns-clause-imbalance c =
-    fall_imbalance c.args.flow.now c.move_rooms.new.self c.args.span c.args.units (omega (arith, c.requires.fits.0)) c.requires.fits.1 c.requires.solved.balanced c.move_rooms.ensures
+    fall_imbalance c.args.flow.now c.move_rooms.new.self c.args.span c.args.units (omega (arith, c.requires.fits.0))
+    c.requires.fits.1 c.requires.solved.balanced c.move_rooms.ensures
 
 pub returns-clause-few : goal.returns-clause-few
 returns-clause-few c =
     let night = c.args.span.from in
     let within = c.requires.fits.0 in
-    omega (arith, c.requires.fits.1 night (omega arith) (omega (arith, within.0)), c.requires.solved.priced.limits.rooms night 0 (omega (arith, within.0, within.1)))
+    omega (
+      arith,
+      c.requires.fits.1 night (omega arith) (omega (arith, within.0)),
+      c.requires.solved.priced.limits.rooms night 0 (omega (arith, within.0, within.1)),
+    )

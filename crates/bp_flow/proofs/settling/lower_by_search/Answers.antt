@@ -13,8 +13,10 @@ returns-clause-settled g c =
     let to : AreDistancesTo p (length p.flow.program.rooms) distances = search rules in
     let each : length by ≡ length p.flow.program.rooms + 1 = search rules in
     let top : c.from-top.result ≡ slice_index p.potentials 0 = search rules in
-    let fills : AreFalls distances (slice_index p.potentials 0) by (length p.flow.program.rooms + 1) = λ v h. omega (arith, c.fill_falls.ensures v (omega (arith, each, h)), top) in
-    (settled_by_lift p c.lift.new.self distances by c.nights-nights.ensures.priced c.requires.slack c.requires.balanced to c.lift.ensures.flow fills c.lift.ensures.potentials).0
+    let fills : AreFalls distances (slice_index p.potentials 0) by (length p.flow.program.rooms + 1) =
+    λ v h. omega (arith, c.fill_falls.ensures v (omega (arith, each, h)), top) in
+    (settled_by_lift p c.lift.new.self distances by c.nights-nights.ensures.priced c.requires.slack c.requires.balanced to c.lift.ensures.flow fills
+    c.lift.ensures.potentials).0
 
 pub returns-clause-slack : goal.returns-clause-slack
 returns-clause-slack g c =
@@ -24,5 +26,7 @@ returns-clause-slack g c =
     let to : AreDistancesTo p (length p.flow.program.rooms) distances = search rules in
     let each : length by ≡ length p.flow.program.rooms + 1 = search rules in
     let top : c.from-top.result ≡ slice_index p.potentials 0 = search rules in
-    let fills : AreFalls distances (slice_index p.potentials 0) by (length p.flow.program.rooms + 1) = λ v h. omega (arith, c.fill_falls.ensures v (omega (arith, each, h)), top) in
-    (settled_by_lift p c.lift.new.self distances by c.nights-nights.ensures.priced c.requires.slack c.requires.balanced to c.lift.ensures.flow fills c.lift.ensures.potentials).1
+    let fills : AreFalls distances (slice_index p.potentials 0) by (length p.flow.program.rooms + 1) =
+    λ v h. omega (arith, c.fill_falls.ensures v (omega (arith, each, h)), top) in
+    (settled_by_lift p c.lift.new.self distances by c.nights-nights.ensures.priced c.requires.slack c.requires.balanced to c.lift.ensures.flow fills
+    c.lift.ensures.potentials).1

@@ -13,4 +13,5 @@ loop-node-preserved c v h =
     ]
 
 pub returns : goal.returns
-returns c is = stand_settled c.args.flow.now c.ranks-ranks.result.now c.nights-node-end.ensures.priced c.requires.balanced c.requires.slack (λ v h. c.loop-node.invariant v (omega (arith, h, c.nights-node-end.ensures.value, c.loop-node-test.false)))
+returns c is = stand_settled c.args.flow.now c.ranks-ranks.result.now c.nights-node-end.ensures.priced c.requires.balanced c.requires.slack
+    (λ v h. c.loop-node.invariant v (omega (arith, h, c.nights-node-end.ensures.value, c.loop-node-test.false)))

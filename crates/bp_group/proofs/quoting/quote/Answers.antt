@@ -17,7 +17,8 @@ overflow_sub-displacement g c =
     let p : Program = c.args.solver.now.flow.program in
     let none : first_short (slice_index p.rooms) c.args.span c.args.rooms ≡ None = search rules in
     let has : HasUnits p c.args.span c.args.rooms = each_has_units p c.args.span c.args.rooms c.requires.span none in
-    let tells = c.certificates_tell_displacement.ensures p c.args.span c.args.rooms c.in_ok-before.before c.in_ok-after.after c.requires.span has c.in_ok-before.ensures.certifies c.in_ok-after.ensures.least.certifies in
+    let tells = c.certificates_tell_displacement.ensures p c.args.span c.args.rooms c.in_ok-before.before c.in_ok-after.after c.requires.span has
+    c.in_ok-before.ensures.certifies c.in_ok-after.ensures.least.certifies in
     omega (arith, tells.0, ap (λ (k : Claim). k.value) c.before-2.view_is, ap (λ (k : Claim). k.value) c.after.view_is)
 
 pub returns-clause-displacement : goal.returns-clause-displacement
@@ -27,7 +28,9 @@ returns-clause-displacement g c =
     let is : Claim = c.in_ok-after.after in
     let none : first_short (slice_index p.rooms) c.args.span c.args.rooms ≡ None = search rules in
     let has : HasUnits p c.args.span c.args.rooms = each_has_units p c.args.span c.args.rooms c.requires.span none in
-    let tells = c.certificates_tell_displacement.ensures p c.args.span c.args.rooms was is c.requires.span has c.in_ok-before.ensures.certifies c.in_ok-after.ensures.least.certifies in
-    let same : was.value - is.value ≡ c.before-2.inside.value - c.after.inside.value = omega (arith, ap (λ (k : Claim). k.value) c.before-2.view_is, ap (λ (k : Claim). k.value) c.after.view_is) in
+    let tells = c.certificates_tell_displacement.ensures p c.args.span c.args.rooms was is c.requires.span has c.in_ok-before.ensures.certifies
+    c.in_ok-after.ensures.least.certifies in
+    let same : was.value - is.value ≡ c.before-2.inside.value - c.after.inside.value =
+    omega (arith, ap (λ (k : Claim). k.value) c.before-2.view_is, ap (λ (k : Claim). k.value) c.after.view_is) in
     let D : ℕ → Type 0 = λ cost. IsDisplacement p c.args.span c.args.rooms cost in
     subst D same tells.1

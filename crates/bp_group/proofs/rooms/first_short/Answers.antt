@@ -6,7 +6,8 @@ use Rattle.bp_group.proofs.rooms.first_short.Goals as goal
 pub returns-then-rooms-units : goal.returns-then-rooms-units
 returns-then-rooms-units c =
     let is_short : ℕ → Bool = λ n. nat_lt (slice_index c.args.solver.now.flow.program.rooms n) c.args.units in
-    sym (find-range_some is_short c.args.span.from (c.args.span.to - c.args.span.from) c.loop-night.night (omega arith) (omega arith) (λ k h g. c.loop-night.invariant k h g) (lt-ltb _ _ (omega arith)))
+    sym (find-range_some is_short c.args.span.from (c.args.span.to - c.args.span.from) c.loop-night.night (omega arith) (omega arith)
+    (λ k h g. c.loop-night.invariant k h g) (lt-ltb _ _ (omega arith)))
 
 pub returns : goal.returns
 returns c =

@@ -14,7 +14,8 @@ overflow_cast-index c =
 pub loop-index-preserved : goal.loop-index-preserved
 loop-index-preserved c =
     let put = rw c.deref_mut.ensures.value at c.in_ok-place.ensures in
-    let (right, holds) = table_more c.args.settings.first c.args.settings.nights c.loop-index.index c.args.tables.now c.loop-index.own.items c.place.new.own c.loop-index-test.true c.loop-index.invariant.right c.loop-index.invariant.holds put in
+    let (right, holds) = table_more c.args.settings.first c.args.settings.nights c.loop-index.index c.args.tables.now c.loop-index.own.items c.place.new.own
+    c.loop-index-test.true c.loop-index.invariant.right c.loop-index.invariant.holds put in
     record {
       right = right;
       holds = rw (with_items_is c.loop-index.own c.place.new.own (omega (arith, c.place.auto.own, c.deref_mut.ensures.len))) holds;
@@ -24,7 +25,8 @@ pub returns-in_err-place-clause-err : goal.returns-in_err-place-clause-err
 returns-in_err-place-clause-err c =
     let p = err_from_is_err_and c.from_residual-in_err-place.result c.from_residual-in_err-place.ensures.1 in
     let wrong = rw c.deref_mut.ensures.value at c.in_err-place.ensures in
-    rw (p.1, p.2) (table_refused c.args.settings.first c.args.settings.nights c.loop-index.index c.args.tables.now c.loop-index.own.items _ c.loop-index-test.true c.loop-index.invariant.right c.loop-index.invariant.holds wrong)
+    rw (p.1, p.2) (table_refused c.args.settings.first c.args.settings.nights c.loop-index.index c.args.tables.now c.loop-index.own.items _
+    c.loop-index-test.true c.loop-index.invariant.right c.loop-index.invariant.holds wrong)
 
 pub returns-clause-ok : goal.returns-clause-ok
 returns-clause-ok c =

@@ -11,4 +11,5 @@ night_tables-items (v ∷ vs) = ap (λ ts. night_table (view v) ∷ ts) (night_t
 pub returns-in_ok-night_tables-in-Some-clause-ok : goal.returns-in_ok-night_tables-in-Some-clause-ok
 returns-in_ok-night_tables-in-Some-clause-ok c =
     rw (← c.in-Some.ensures)
-    (ap (λ ts. Ok ts) (night_tables-items c.in-Some.values.now.items ∙ ap (map (λ v. night_table (view v))) (sym c.deref.ensures.value) ∙ sym c.in_ok-night_tables-in-Some.ensures))
+    (ap (λ ts. Ok ts) (night_tables-items c.in-Some.values.now.items ∙ ap (map (λ v. night_table (view v))) (sym c.deref.ensures.value) ∙
+    sym c.in_ok-night_tables-in-Some.ensures))

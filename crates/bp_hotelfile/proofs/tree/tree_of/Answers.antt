@@ -14,7 +14,8 @@ no_text bytes broken =
       | false ↦ λ e. refl
     ] refl
 
-read_text : (bytes text : List ℕ) (found : Option Members) → text ≡ bytes → IsUtf8 bytes → parse_document text ≡ found → tree_of bytes ≡ Rattle.std.specs.Option.ok_or found NotToml
+read_text : (bytes text : List ℕ) (found : Option Members) → text ≡ bytes → IsUtf8 bytes → parse_document text ≡ found →
+    tree_of bytes ≡ Rattle.std.specs.Option.ok_or found NotToml
 read_text bytes text found same utf8 parsed = rw (is_utf8-from_IsUtf8 bytes utf8, ← same, parsed)
 
 pub returns-in_default-clause-err : goal.returns-in_default-clause-err

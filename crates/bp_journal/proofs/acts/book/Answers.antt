@@ -7,5 +7,14 @@ use Rattle.bp_journal.proofs.acts.book.Goals as goal
 
 pub returns-in-Some : goal.returns-in-Some
 returns-in-Some c =
-    let w = c.in-Some.ensures in
-    (Do (Book w.0), refl, w.1, record { word = refl; told = built_told (λ k. k ≤ 4294967295) IsActWithin (λ n. Do (Book n)) w.0 c.in-Some.number.value c.in-Some.number.great (λ h. h) (λ h. h) (number_told 4294967295 w.0 c.in-Some.number w.2) })
+    let w = c.in-Some.ensures in (
+      Do (Book w.0),
+      refl,
+      w.1,
+      record {
+        word = refl;
+        told =
+            built_told (λ k. k ≤ 4294967295) IsActWithin (λ n. Do (Book n)) w.0 c.in-Some.number.value c.in-Some.number.great (λ h. h) (λ h. h)
+            (number_told 4294967295 w.0 c.in-Some.number w.2);
+      },
+    )

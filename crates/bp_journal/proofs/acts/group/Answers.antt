@@ -19,7 +19,9 @@ returns-in-Some-two c =
       w.2 ∙ ap (λ ws. spelled w.0 ∷ spelled w.1 ∷ ws) v.2,
       record {
         word = refl;
-        told = four_told IsActWithin (λ m n k l. Do (Group (record { from = m; to = n }) k l)) 4294967295 4294967295 18446744073709551615 18446744073709551615 w.0 w.1 v.0 v.1 c.in-Some.from c.in-Some.to c.in-Some-two.rooms c.in-Some-two.amount
-            c.is_either-great.result c.is_either.result c.is_either-in-Some-two.result (λ h. (h.0.0, h.0.1, h.1.0, h.1.1)) (λ h. ((h.0, h.1), (h.2, h.3))) w.3 w.4 v.3 v.4 c.is_either.ensures c.is_either-in-Some-two.ensures c.is_either-great.ensures;
+        told = four_told IsActWithin (λ m n k l. Do (Group (record { from = m; to = n }) k l))
+            4294967295 4294967295 18446744073709551615 18446744073709551615 w.0 w.1 v.0 v.1 c.in-Some.from c.in-Some.to c.in-Some-two.rooms c.in-Some-two.amount
+            c.is_either-great.result c.is_either.result c.is_either-in-Some-two.result (λ h. (h.0.0, h.0.1, h.1.0, h.1.1)) (λ h. ((h.0, h.1), (h.2, h.3)))
+            w.3 w.4 v.3 v.4 c.is_either.ensures c.is_either-in-Some-two.ensures c.is_either-great.ensures;
       },
     )

@@ -7,5 +7,14 @@ use Rattle.bp_journal.proofs.acts.resize.Goals as goal
 
 pub returns-in-Some : goal.returns-in-Some
 returns-in-Some c =
-    let w = c.in-Some.ensures in
-    (Do (Resize w.0 w.1), refl, w.2, record { word = refl; told = two_told IsActWithin (λ m n. Do (Resize m n)) 4294967295 18446744073709551615 w.0 w.1 c.in-Some.first c.in-Some.second c.is_either-great.result (λ h. h) (λ h. h) w.3 w.4 c.is_either-great.ensures })
+    let w = c.in-Some.ensures in (
+      Do (Resize w.0 w.1),
+      refl,
+      w.2,
+      record {
+        word = refl;
+        told =
+            two_told IsActWithin (λ m n. Do (Resize m n)) 4294967295 18446744073709551615 w.0 w.1 c.in-Some.first c.in-Some.second c.is_either-great.result
+            (λ h. h) (λ h. h) w.3 w.4 c.is_either-great.ensures;
+      },
+    )

@@ -10,4 +10,5 @@ use Rattle.bp_journal.proofs.reading.read_lines.Goals as goal
 pub returns-in_err-version : goal.returns-in_err-version
 returns-in_err-version c =
     let p = err_from_is_err_and c.from_residual.result c.from_residual.ensures.1 in
-    rw (p.1, p.2) (refused_here noted_lines IsNotedWithin [] IsVersionLine IsAnyLine c.args.lines.now c.args.lines.now _ _ version_place (no_lines c.args.lines.now) c.in_err-version.ensures)
+    rw (p.1, p.2) (refused_here noted_lines IsNotedWithin [] IsVersionLine IsAnyLine c.args.lines.now c.args.lines.now _ _ version_place
+    (no_lines c.args.lines.now) c.in_err-version.ensures)

@@ -6,5 +6,11 @@ use Rattle.bp_journal.proofs.replies.group_too_low.Goals as goal
 
 pub returns-in-Some : goal.returns-in-Some
 returns-in-Some c =
-    let w = c.in-Some.ensures in
-    (GroupTooLow w.0, refl, refl, w.1, built_told (λ k. k ≤ 1000000000000000000000000000000) IsReplyWithin (λ n. GroupTooLow n) w.0 c.in-Some.displacement.value c.in-Some.displacement.great (λ h. h) (λ h. h) (number_told 1000000000000000000000000000000 w.0 c.in-Some.displacement w.2))
+    let w = c.in-Some.ensures in (
+      GroupTooLow w.0,
+      refl,
+      refl,
+      w.1,
+      built_told (λ k. k ≤ 1000000000000000000000000000000) IsReplyWithin (λ n. GroupTooLow n) w.0 c.in-Some.displacement.value c.in-Some.displacement.great
+          (λ h. h) (λ h. h) (number_told 1000000000000000000000000000000 w.0 c.in-Some.displacement w.2),
+    )

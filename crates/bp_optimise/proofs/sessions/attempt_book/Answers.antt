@@ -12,7 +12,8 @@ pub returns-in-Ok : goal.returns-in-Ok
 returns-in-Ok g c =
     let adds : AddsCall c.args.pass.now c.book.new.pass (Do (Book c.args.stay) None) (book_answer (Ok c.in-Ok.field-0)) = search rules in
     record {
-      goes_on = acts_by_command c.args.lead c.args.pass.now c.book.new.pass (Book c.args.stay) None (book_answer c.book.result) c.args.optimiser.now c.book.ensures.called c.requires.goes;
+      goes_on = acts_by_command c.args.lead c.args.pass.now c.book.new.pass (Book c.args.stay) None (book_answer c.book.result)
+          c.args.optimiser.now c.book.ensures.called c.requires.goes;
       attempt = is_made c.args.pass.now c.book.new.pass (Book c.args.stay) None (book_answer (Ok c.in-Ok.field-0)) adds (book_logged c.in-Ok.field-0);
     }
 
@@ -21,7 +22,8 @@ returns-in-Err-HistoryFull g c =
     let adds : AddsCall c.args.pass.now c.book.new.pass (Do (Book c.args.stay) None) NoEntry = search rules in
     let called : IsCalled c.args.pass.now c.book.new.pass (Do (Book c.args.stay) None) NoEntry = search rules in
     record {
-      goes_on = acts_by_command c.args.lead c.args.pass.now c.book.new.pass (Book c.args.stay) None (book_answer c.book.result) c.args.optimiser.now c.book.ensures.called c.requires.goes;
+      goes_on = acts_by_command c.args.lead c.args.pass.now c.book.new.pass (Book c.args.stay) None (book_answer c.book.result)
+          c.args.optimiser.now c.book.ensures.called c.requires.goes;
       attempt = is_full c.args.pass.now c.book.new.pass (Book c.args.stay) None called adds;
     }
 
@@ -31,7 +33,8 @@ returns-then-full g c =
     let adds : AddsCall c.args.pass.now c.book.new.pass (Do (Book c.args.stay) None) (Behind b.field-0-0 b.field-0-1) = search rules in
     let called : IsCalled c.args.pass.now c.book.new.pass (Do (Book c.args.stay) None) (Behind b.field-0-0 b.field-0-1) = search rules in
     record {
-      goes_on = acts_by_command c.args.lead c.args.pass.now c.book.new.pass (Book c.args.stay) None (book_answer c.book.result) c.args.optimiser.now c.book.ensures.called c.requires.goes;
+      goes_on = acts_by_command c.args.lead c.args.pass.now c.book.new.pass (Book c.args.stay) None (book_answer c.book.result)
+          c.args.optimiser.now c.book.ensures.called c.requires.goes;
       attempt = is_behind c.args.pass.now c.book.new.pass (Book c.args.stay) None b.field-0-0 b.field-0-1 called adds (c.requires.full c.if-full.true);
     }
 
@@ -41,6 +44,8 @@ returns-else-full g c =
     let adds : AddsCall c.args.pass.now c.book.new.pass (Do (Book c.args.stay) None) (Behind b.field-0-0 b.field-0-1) = search rules in
     record {
       goes_on = acts_twice c.args.lead c.args.pass.now c.book.new.pass c.publish_again.new.pass c.publish_again.new.optimiser
-          (command_acts c.args.lead c.args.pass.now c.book.new.pass (Book c.args.stay) None (book_answer c.book.result) c.book.ensures.called) c.publish_again.ensures.goes_on;
-      attempt = attempt_after (Book c.args.stay) c.args.pass.now c.book.new.pass c.publish_again.new.pass c.publish_again.result (ap commands_in adds) (c.publish_again.ensures.attempt (Book c.args.stay));
+          (command_acts c.args.lead c.args.pass.now c.book.new.pass (Book c.args.stay) None (book_answer c.book.result) c.book.ensures.called)
+          c.publish_again.ensures.goes_on;
+      attempt = attempt_after (Book c.args.stay) c.args.pass.now c.book.new.pass c.publish_again.new.pass c.publish_again.result (ap commands_in adds)
+          (c.publish_again.ensures.attempt (Book c.args.stay));
     }

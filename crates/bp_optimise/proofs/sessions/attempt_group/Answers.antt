@@ -18,7 +18,8 @@ use Rattle.bp_optimise.proofs.sessions.attempt_group.Goals as goal
 pub quote_units-requires : goal.quote_units-requires
 quote_units-requires g c =
     let l = caught_up_looked c.args.pass.now c.advance.new.pass c.advance.new.self.position c.advance.ensures.caught_up in
-    group_span c.advance.new.pass.house c.advance.new.pass.seen c.advance.new.self c.args.span c.args.rooms c.args.amount c.advance.ensures.goes (subst (λ (h : Inn). IsTrue (is_command_in_range h (Group c.args.span c.args.rooms c.args.amount))) (sym l.house) c.requires.range)
+    group_span c.advance.new.pass.house c.advance.new.pass.seen c.advance.new.self c.args.span c.args.rooms c.args.amount c.advance.ensures.goes
+    (subst (λ (h : Inn). IsTrue (is_command_in_range h (Group c.args.span c.args.rooms c.args.amount))) (sym l.house) c.requires.range)
 
 pub returns-in_default : goal.returns-in_default
 returns-in_default g c =
@@ -42,8 +43,10 @@ returns-in-Ok-group g c =
     let none : MakesNone old mid = ap commands_in l.calls in
     let adds : AddsCall mid new (Do command c.in-Ok.quoted) (group_answer (Ok c.in-Ok-group.field-0)) = search rules in
     record {
-      goes_on = acts_twice c.args.lead old mid new o looks (acts_by_command c.args.lead mid new command c.in-Ok.quoted (group_answer c.group.result) o c.group.ensures.called c.advance.ensures.goes);
-      attempt = outcome_after command old mid new Made none (is_made mid new command c.in-Ok.quoted (group_answer (Ok c.in-Ok-group.field-0)) adds (group_logged c.in-Ok-group.field-0));
+      goes_on = acts_twice c.args.lead old mid new o looks
+          (acts_by_command c.args.lead mid new command c.in-Ok.quoted (group_answer c.group.result) o c.group.ensures.called c.advance.ensures.goes);
+      attempt = outcome_after command old mid new Made none
+          (is_made mid new command c.in-Ok.quoted (group_answer (Ok c.in-Ok-group.field-0)) adds (group_logged c.in-Ok-group.field-0));
     }
 
 pub returns-in-Err-HistoryFull : goal.returns-in-Err-HistoryFull
@@ -59,7 +62,8 @@ returns-in-Err-HistoryFull g c =
     let adds : AddsCall mid new (Do command c.in-Ok.quoted) NoEntry = search rules in
     let called : IsCalled mid new (Do command c.in-Ok.quoted) NoEntry = search rules in
     record {
-      goes_on = acts_twice c.args.lead old mid new o looks (acts_by_command c.args.lead mid new command c.in-Ok.quoted (group_answer c.group.result) o c.group.ensures.called c.advance.ensures.goes);
+      goes_on = acts_twice c.args.lead old mid new o looks
+          (acts_by_command c.args.lead mid new command c.in-Ok.quoted (group_answer c.group.result) o c.group.ensures.called c.advance.ensures.goes);
       attempt = outcome_after command old mid new HistoryFull none (is_full mid new command c.in-Ok.quoted called adds);
     }
 
@@ -75,6 +79,7 @@ returns-in-Err-Unquoted g c =
     let none : MakesNone old mid = ap commands_in l.calls in
     let adds : AddsCall mid new (Do command c.in-Ok.quoted) (group_answer (Err c.in-Err-Unquoted.field-0)) = search rules in
     record {
-      goes_on = acts_twice c.args.lead old mid new o looks (acts_by_command c.args.lead mid new command c.in-Ok.quoted (group_answer c.group.result) o c.group.ensures.called c.advance.ensures.goes);
+      goes_on = acts_twice c.args.lead old mid new o looks
+          (acts_by_command c.args.lead mid new command c.in-Ok.quoted (group_answer c.group.result) o c.group.ensures.called c.advance.ensures.goes);
       attempt = ap commands_in (group_stops mid new command c.in-Ok.quoted c.in-Err-Unquoted.field-0 adds) ∙ none;
     }

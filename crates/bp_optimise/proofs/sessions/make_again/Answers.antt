@@ -32,7 +32,8 @@ loop-preserved g c =
     )
 
 pub returns-in-Ended-clause-goes_on : goal.returns-in-Ended-clause-goes_on
-returns-in-Ended-clause-goes_on g c = acts_twice c.args.lead c.args.pass.now c.loop.pass c.make_attempt.new.pass c.make_attempt.new.optimiser c.loop.invariant.3 c.make_attempt.ensures.goes_on
+returns-in-Ended-clause-goes_on g c =
+    acts_twice c.args.lead c.args.pass.now c.loop.pass c.make_attempt.new.pass c.make_attempt.new.optimiser c.loop.invariant.3 c.make_attempt.ensures.goes_on
 
 pub returns-in-Ended-clause-outcome : goal.returns-in-Ended-clause-outcome
 returns-in-Ended-clause-outcome g c =

@@ -11,8 +11,13 @@ pub returns-in-Ok : goal.returns-in-Ok
 returns-in-Ok g c =
     let r : IsRound c.args.pass.now c.round.new.pass c.round.new.self.position c.args.lead c.in-Ok.round = search rules in
     record {
-      goes_on = record { acted = (round_acts c.args.lead c.round.new.self.position c.args.pass.now c.round.new.pass c.in-Ok.round r).0; goes = c.round.ensures.goes };
-      attempt = λ command. attempt_by_round c.round.new.self.position c.args.lead c.args.pass.now c.round.new.pass c.in-Ok.round c.found_none_left.result command r c.found_none_left.ensures;
+      goes_on = record {
+        acted = (round_acts c.args.lead c.round.new.self.position c.args.pass.now c.round.new.pass c.in-Ok.round r).0;
+        goes =
+            c.round.ensures.goes;
+      };
+      attempt = λ command. attempt_by_round c.round.new.self.position c.args.lead c.args.pass.now c.round.new.pass c.in-Ok.round c.found_none_left.result
+          command r c.found_none_left.ensures;
     }
 
 pub returns-in-Err : goal.returns-in-Err

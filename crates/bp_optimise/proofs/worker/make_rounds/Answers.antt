@@ -9,10 +9,12 @@ pub loop-init : goal.loop-init
 loop-init g c = (tt, tt, c.requires.goes, acts_not c.args.lead c.args.pass.now, refl, (λ _. settled_none c.args.sessions c.args.lead c.args.pass.now))
 
 pub returns-in-Leaves-clause-acted : goal.returns-in-Leaves-clause-acted
-returns-in-Leaves-clause-acted g c = acts_again c.args.lead c.args.pass.now c.loop.pass c.make_step.new.pass c.loop.invariant.3 c.make_step.ensures.goes_on.acted
+returns-in-Leaves-clause-acted g c =
+    acts_again c.args.lead c.args.pass.now c.loop.pass c.make_step.new.pass c.loop.invariant.3 c.make_step.ensures.goes_on.acted
 
 pub returns-in-NoMemory-clause-acted : goal.returns-in-NoMemory-clause-acted
-returns-in-NoMemory-clause-acted g c = acts_again c.args.lead c.args.pass.now c.loop.pass c.make_step.new.pass c.loop.invariant.3 c.make_step.ensures.goes_on.acted
+returns-in-NoMemory-clause-acted g c =
+    acts_again c.args.lead c.args.pass.now c.loop.pass c.make_step.new.pass c.loop.invariant.3 c.make_step.ensures.goes_on.acted
 
 pub returns-in-Leaves-clause-settled : goal.returns-in-Leaves-clause-settled
 returns-in-Leaves-clause-settled g c =

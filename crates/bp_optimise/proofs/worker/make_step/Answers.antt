@@ -13,7 +13,11 @@ returns-then-not-superseded-clause-goes_on g c =
     let old = c.args.pass.now in
     let mid = c.have_left-left.new.pass in
     let l : HasLooked old mid = looked old mid c.have_left-left.ensures.read in
-    record { acted = look_acts c.args.lead old mid l; goes = goes_later old.house mid.house old.seen mid.seen c.args.optimiser.now l.house l.begins c.requires.goes }
+    record {
+      acted = look_acts c.args.lead old mid l;
+      goes =
+          goes_later old.house mid.house old.seen mid.seen c.args.optimiser.now l.house l.begins c.requires.goes;
+    }
 
 pub returns-in-Ok : goal.returns-in-Ok
 returns-in-Ok g c =
@@ -27,7 +31,8 @@ returns-in-Ok g c =
     record {
       goes_on = record { acted = acts_again c.args.lead old mid new (look_acts c.args.lead old mid l) acted.0; goes = c.round.ensures.goes };
       no_command = acted.1 ∙ ap commands_in l.calls;
-      step = step_by_round c.args.sessions c.args.lead position c.args.superseded c.is_superseded.result old mid new c.in-Ok.round c.have_left-left.ensures.read r c.is_superseded.ensures;
+      step = step_by_round c.args.sessions c.args.lead position c.args.superseded c.is_superseded.result old mid new c.in-Ok.round
+          c.have_left-left.ensures.read r c.is_superseded.ensures;
     }
 
 pub returns-in-Err : goal.returns-in-Err
@@ -38,7 +43,11 @@ returns-in-Err g c =
     let l : HasLooked old mid = looked old mid c.have_left-left.ensures.read in
     let m : HasLooked mid new = search rules in
     record {
-      goes_on = record { acted = acts_again c.args.lead old mid new (look_acts c.args.lead old mid l) (look_acts c.args.lead mid new m); goes = c.round.ensures.goes };
+      goes_on = record {
+        acted = acts_again c.args.lead old mid new (look_acts c.args.lead old mid l) (look_acts c.args.lead mid new m);
+        goes =
+            c.round.ensures.goes;
+      };
       no_command = ap commands_in m.calls ∙ ap commands_in l.calls;
       step = tt;
     }

@@ -15,4 +15,5 @@ loop-node-preserved c v h =
 pub returns : goal.returns
 returns c is =
     let end : slice_index c.args.kept.now c.args.to ≡ 0 = search rules in
-    right_distances c.args.flow.now c.args.to c.args.kept.now c.args.ranks.now c.nights-nights.ensures.priced.limits c.requires.each end (λ v h. c.loop-node.invariant v (omega (arith, h, c.nights-nights.ensures.value, c.loop-node-test.false)))
+    right_distances c.args.flow.now c.args.to c.args.kept.now c.args.ranks.now c.nights-nights.ensures.priced.limits c.requires.each end
+    (λ v h. c.loop-node.invariant v (omega (arith, h, c.nights-nights.ensures.value, c.loop-node-test.false)))

@@ -9,4 +9,5 @@ invariant-loop-hop l =
     All (λ h. Admits l.flow.flow (step_of l.flow.flow.program h) l.units) (take l.hop-index l.path)
     × (1 ≤ l.units)
     × (l.units ≤ no_limit)
-    × (min l.units (least_room l.flow.flow (steps_of l.flow.flow.program (drop l.hop-index l.path))) ≡ least_room l.flow.flow (steps_of l.flow.flow.program l.path))
+    × (min l.units (least_room l.flow.flow (steps_of l.flow.flow.program (drop l.hop-index l.path))) ≡
+    least_room l.flow.flow (steps_of l.flow.flow.program l.path))

@@ -13,7 +13,10 @@ returns-then-index-clause-found g c =
     let to_in : c.args.to < length kept = omega (arith, c.close_to.ensures.labels.2.kept_each, c.requires.to) in
     let read = c.index.ensures ∙ get_or_default kept c.args.to c.index.result.now 0 to_in in
     let P : ℕ → Type 0 = λ v. AreDistances c.args.flow.now v kept in
-    let d : AreDistances c.args.flow.now c.args.from kept = subst P (c.close_to.ensures.from ∙ c.begin.ensures.from) (are_distances c.args.flow.now _ _ _ _ _ c.nights-nights.ensures.priced.limits c.close_to.ensures.labels (λ v v_in open_node. omega (arith, c.close_to.ensures.done v v_in open_node, read, c.if-index.true))) in
+    let d : AreDistances c.args.flow.now c.args.from kept =
+    subst P (c.close_to.ensures.from ∙
+    c.begin.ensures.from) (are_distances c.args.flow.now _ _ _ _ _ c.nights-nights.ensures.priced.limits c.close_to.ensures.labels
+    (λ v v_in open_node. omega (arith, c.close_to.ensures.done v v_in open_node, read, c.if-index.true))) in
     ((λ path is. omega (arith, d.unreached c.args.to path c.requires.to is, read, c.if-index.true)), d)
 
 pub path_to-start-requires-clause-near : goal.path_to-start-requires-clause-near
@@ -41,10 +44,16 @@ returns-clause-found g c =
     let from_is = c.close_to.ensures.from ∙ c.begin.ensures.from in
     let P : ℕ → Type 0 = λ v. AreDistancesBelow c.args.flow.now v (slice_index kept c.args.to) kept in
     let Q : ℕ → Type 0 = λ v. IsTracedPath c.args.flow.now kept rank v c.args.to path in
-    let d : AreDistancesBelow c.args.flow.now c.args.from (slice_index kept c.args.to) kept = subst P from_is (are_distances_below c.args.flow.now _ _ _ _ _ _ c.nights-nights.ensures.priced.limits c.close_to.ensures.labels c.close_to.ensures.done near) in
+    let d : AreDistancesBelow c.args.flow.now c.args.from (slice_index kept c.args.to) kept =
+    subst P from_is (are_distances_below c.args.flow.now _ _ _ _ _ _ c.nights-nights.ensures.priced.limits c.close_to.ensures.labels
+    c.close_to.ensures.done near) in
     let slots_len : length c.path_to-start.new.slots ≡ c.scratch.inside.slots.len = search rules in
-    let items : (with_items c.scratch.inside.slots c.path_to-start.new.slots).items ≡ c.path_to-start.new.slots = with_items_is c.scratch.inside.slots c.path_to-start.new.slots slots_len in
+    let items : (with_items c.scratch.inside.slots c.path_to-start.new.slots).items ≡ c.path_to-start.new.slots =
+    with_items_is c.scratch.inside.slots c.path_to-start.new.slots slots_len in
     let served : ℕ = c.one_more-scratch-inside.result in
-    let R : List Hop → Type 0 = λ hs. IsShortestPath c.args.flow.now c.args.from c.args.to c.path_to-start.result.1 (record { distances = kept; path = drop c.path_to-start.result.0 hs; served = served }) in
-    let found = is_shortest c.args.flow.now c.args.from c.args.to c.path_to-start.result.1 served kept rank path near d.start d.grows (subst Q from_is c.path_to-start.ensures.path) c.path_to-start.ensures.admits c.path_to-start.ensures.some c.path_to-start.ensures.least in
+    let R : List Hop → Type 0 =
+    λ hs. IsShortestPath c.args.flow.now c.args.from c.args.to c.path_to-start.result.1
+    (record { distances = kept; path = drop c.path_to-start.result.0 hs; served = served }) in
+    let found = is_shortest c.args.flow.now c.args.from c.args.to c.path_to-start.result.1 served kept rank path near d.start d.grows
+    (subst Q from_is c.path_to-start.ensures.path) c.path_to-start.ensures.admits c.path_to-start.ensures.some c.path_to-start.ensures.least in
     (subst R (sym items) found, d)

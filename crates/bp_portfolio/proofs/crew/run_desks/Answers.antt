@@ -16,12 +16,14 @@ runs_of-requires g c =
     let P : List DeskSite → Type 0 = λ ss. AreToRun c.args.workers c.args.hotels.items ss in
     let Q : List DeskSite → Type 0 = λ ss. All IsOver ss in
     subst Q (sym items)
-    (each_over c.args.workers c.args.hotels.items c.deref_mut.result.now c.run_sites.new.sites (subst P (sym c.deref_mut.ensures.value) c.in_ok-sites.ensures) c.run_sites.ensures.count c.run_sites.ensures.each)
+    (each_over c.args.workers c.args.hotels.items c.deref_mut.result.now c.run_sites.new.sites (subst P (sym c.deref_mut.ensures.value) c.in_ok-sites.ensures)
+    c.run_sites.ensures.count c.run_sites.ensures.each)
 
 pub returns : goal.returns
 returns g c =
     let items = with_items_is c.in_ok-sites.sites c.run_sites.new.sites (omega (arith, c.run_sites.ensures.count, c.deref_mut.ensures.len)) in
     let P : List DeskSite → Type 0 = λ ss. AreToRun c.args.workers c.args.hotels.items ss in
     let R : List DeskSite → Type 0 = λ ss. AreRunsOf ss c.in_ok-runs.runs.items in
-    right_runs c.args.workers c.args.hotels.items c.deref_mut.result.now c.run_sites.new.sites c.in_ok-runs.runs.items (subst P (sym c.deref_mut.ensures.value) c.in_ok-sites.ensures) c.run_sites.ensures.count c.run_sites.ensures.each
+    right_runs c.args.workers c.args.hotels.items c.deref_mut.result.now c.run_sites.new.sites c.in_ok-runs.runs.items
+    (subst P (sym c.deref_mut.ensures.value) c.in_ok-sites.ensures) c.run_sites.ensures.count c.run_sites.ensures.each
     (subst R items c.in_ok-runs.ensures)

@@ -8,7 +8,8 @@ use Rattle.bp_portfolio.proofs.list.read_head.Goals as goal
 pub returns-in_err-word_line : goal.returns-in_err-word_line
 returns-in_err-word_line c =
     let p = err_from_is_err_and c.from_residual.result c.from_residual.ensures.1 in
-    rw (p.1, p.2) (list_refused _ _ _ [] 3 _ (list_nothing c.args.lines.now) refl (numbers_refused _ _ _ (λ _. Unit {0}) _ _ _ (λ ns fine. tt) c.in_err-word_line.ensures))
+    rw (p.1, p.2) (list_refused _ _ _ [] 3 _ (list_nothing c.args.lines.now) refl
+    (numbers_refused _ _ _ (λ _. Unit {0}) _ _ _ (λ ns fine. tt) c.in_err-word_line.ensures))
 
 pub returns-in_err-hotels : goal.returns-in_err-hotels
 returns-in_err-hotels c =

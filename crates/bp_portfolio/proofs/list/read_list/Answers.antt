@@ -12,7 +12,8 @@ returns-in_err-at_end c =
     let v : Listed = (c.in_ok-hotels.hotels.items, c.in_ok-hotels.ensures.1) in
     let P : Given → Type 0 = λ g. Spells list_lines IsPortfolio g c.read_lines.new.lines v in
     rw (p.1, p.2) (trailed_text list_lines IsPortfolio c.args.bytes.now c.read_lines.new.lines v _
-    (subst P c.new-lines.ensures (record { within = c.in_ok-hotels.ensures.0; gives = c.in_ok-hotels.ensures.2 })) c.in_err-at_end.ensures.0 c.in_err-at_end.ensures.1)
+    (subst P c.new-lines.ensures (record { within = c.in_ok-hotels.ensures.0; gives = c.in_ok-hotels.ensures.2 }))
+    c.in_err-at_end.ensures.0 c.in_err-at_end.ensures.1)
 
 pub returns : goal.returns
 returns c =

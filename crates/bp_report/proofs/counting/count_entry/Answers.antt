@@ -23,7 +23,12 @@ count_book-requires-clause-stay c =
     let e = entry-at H c.args.place c.in-Some.entry c.requires.place c.in-Some.ensures in
     let some = ap (λ (x : Entry). booked_stay x.act) (sym e) ∙ sym c.in-Some-booked_stay.ensures in
     let inside = book_stay c.args.book.now.house H c.args.place c.in-Some-booked_stay.stay c.facts.ensures.legal c.requires.place some in
-    omega (arith, inside, ap (λ (l : List Tally). length l) c.requires.tallies, length-map-range_with_len (tally_of H c.args.place) 0 (length c.args.book.now.house.stays))
+    omega (
+      arith,
+      inside,
+      ap (λ (l : List Tally). length l) c.requires.tallies,
+      length-map-range_with_len (tally_of H c.args.place) 0 (length c.args.book.now.house.stays),
+    )
 
 pub count_book-requires-clause-few : goal.count_book-requires-clause-few
 count_book-requires-clause-few c =
@@ -50,7 +55,8 @@ returns-in-Some-booked_stay-clause-booked c =
     let stay = c.in-Some-booked_stay.stay in
     let some = ap (λ (x : Entry). booked_stay x.act) (sym e) ∙ sym c.in-Some-booked_stay.ensures in
     let small = book_caller c.args.book.now.house H c.args.place stay c.facts.ensures.legal c.requires.place some in
-    booked-read H c.args.place stay c.in-Some.entry c.args.booked.now c.count_book.new.booked c.requires.place small e some c.requires.booked c.count_book.ensures.booked
+    booked-read H c.args.place stay c.in-Some.entry c.args.booked.now c.count_book.new.booked c.requires.place small e some c.requires.booked
+    c.count_book.ensures.booked
 
 pub returns-in-Some-booked_stay-clause-tallies : goal.returns-in-Some-booked_stay-clause-tallies
 returns-in-Some-booked_stay-clause-tallies c =

@@ -11,5 +11,6 @@ loop-place-init c =
     let many = c.stays.ensures.value ∙ ap (λ (h : Inn). length h.stays) c.house.ensures in
     record {
       booked = booked-none H;
-      tallies = filled ∙ ap (λ n. replicate n c.none.result) many ∙ ap (λ (t : Tally). replicate (length c.args.book.now.house.stays) t) c.none.ensures ∙ tallies-none H (length c.args.book.now.house.stays);
+      tallies = filled ∙ ap (λ n. replicate n c.none.result) many ∙ ap (λ (t : Tally). replicate (length c.args.book.now.house.stays) t) c.none.ensures ∙
+          tallies-none H (length c.args.book.now.house.stays);
     }

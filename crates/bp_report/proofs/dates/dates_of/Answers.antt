@@ -5,7 +5,8 @@ use Rattle.bp_report.proofs.dates.dates_of.Goals as goal
 pub loop-night-preserved : goal.loop-night-preserved
 loop-night-preserved c =
     let so_far = c.loop-night.invariant in
-    let lt : c.loop-night.night < length c.loop-night.dates = omega (arith, so_far.size, c.nights-night-end.ensures.value, c.nights-night-end.ensures.limits.nights) in
+    let lt : c.loop-night.night < length c.loop-night.dates =
+    omega (arith, so_far.size, c.nights-night-end.ensures.value, c.nights-night-end.ensures.limits.nights) in
     record {
       size = length-set c.loop-night.dates c.loop-night.night c.date_of.result ∙ so_far.size;
       dates = below_more _ _

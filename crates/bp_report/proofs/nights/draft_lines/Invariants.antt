@@ -9,7 +9,8 @@ abbrev pub invariant-loop-night : goal.invariant-loop-night
 invariant-loop-night g l =
     let sink = g.K.Sink in
     record {
-      drafted : IsDrafted (sink.written l.fn.out) (sink.written l.out) l.draft (l.fn.draft ++ rows_text (λ n. night_line l.book.house l.book.history (get_or l.dates n []) n) l.night);
+      drafted : IsDrafted (sink.written l.fn.out) (sink.written l.out) l.draft
+          (l.fn.draft ++ rows_text (λ n. night_line l.book.house l.book.history (get_or l.dates n []) n) l.night);
       steady : sink.steady l.fn.out → sink.steady l.out;
       faults : sink.faults l.fn.out ≤ sink.faults l.out;
     }

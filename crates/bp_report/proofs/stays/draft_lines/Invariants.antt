@@ -11,7 +11,9 @@ abbrev pub invariant-loop-stay : goal.invariant-loop-stay
 invariant-loop-stay g l =
     let sink = g.K.Sink in
     record {
-      drafted : IsDrafted (sink.written l.fn.out) (sink.written l.out) l.draft (l.fn.draft ++ rows_text (λ j. stay_line (get_or l.codes j []) (tally_of l.book.history (length l.book.history) j) (forecast_of l.book.house l.book.history j)) l.stay);
+      drafted : IsDrafted (sink.written l.fn.out) (sink.written l.out) l.draft
+          (l.fn.draft ++ rows_text
+          (λ j. stay_line (get_or l.codes j []) (tally_of l.book.history (length l.book.history) j) (forecast_of l.book.house l.book.history j)) l.stay);
       steady : sink.steady l.fn.out → sink.steady l.out;
       faults : sink.faults l.fn.out ≤ sink.faults l.out;
     }

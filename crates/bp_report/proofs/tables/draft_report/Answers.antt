@@ -24,10 +24,12 @@ value_text H = text_of (line_of (codes "value") (last_value_of H ∷ []) ∷ [])
 report_in_three : (dates stay_codes : List (List ℕ)) (h : Inn) (H : History)
     → text_of (report_lines dates stay_codes h H) ≡ (nights_text dates h H ++ stays_text stay_codes h H) ++ value_text H
 report_in_three dates stay_codes h H =
-    lines_in_three (night_header ∷ night_lines dates h H (length h.rooms)) (stay_header ∷ stay_lines stay_codes h H (length stay_codes)) (line_of (codes "value") (last_value_of H ∷ []) ∷ [])
+    lines_in_three (night_header ∷ night_lines dates h H (length h.rooms)) (stay_header ∷ stay_lines stay_codes h H (length stay_codes))
+    (line_of (codes "value") (last_value_of H ∷ []) ∷ [])
 
 -- the value of the last board is that of the last vector
-value_is : (H : History) (board : Posted) (claim : Claim) → slice_get (boards H) (last_number H) ≡ Some board → claim ≡ board.certificate → claim.value ≡ last_value_of H
+value_is : (H : History) (board : Posted) (claim : Claim) → slice_get (boards H) (last_number H) ≡ Some board → claim ≡ board.certificate →
+    claim.value ≡ last_value_of H
 value_is H board claim last same =
     ap (λ (c : Claim). c.value) same ∙ sym (ap (λ o. unwrap_or (option_map (λ (b : Posted). b.certificate.value) o) 0) last)
 
@@ -35,14 +37,16 @@ pub returns-in_err-draft_nights-clause-writes : goal.returns-in_err-draft_nights
 returns-in_err-draft_nights-clause-writes g c =
     let h = c.args.book.now.house in
     let H = c.args.book.now.history in
-    first_of_three _ _ c.args.draft.now _ (nights_text c.args.dates.now h H) (stays_text c.args.codes.now h H) (value_text H) _ _ (report_in_three c.args.dates.now c.args.codes.now h H)
+    first_of_three _ _ c.args.draft.now _ (nights_text c.args.dates.now h H) (stays_text c.args.codes.now h H) (value_text H) _ _
+    (report_in_three c.args.dates.now c.args.codes.now h H)
     c.from_residual.ensures.0 c.in_err-draft_nights.ensures.writes
 
 pub returns-in_err-draft_stays-clause-writes : goal.returns-in_err-draft_stays-clause-writes
 returns-in_err-draft_stays-clause-writes g c =
     let h = c.args.book.now.house in
     let H = c.args.book.now.history in
-    second_of_three _ _ _ c.args.draft.now c.draft_nights.new.draft _ (nights_text c.args.dates.now h H) (stays_text c.args.codes.now h H) (value_text H) _ _ (report_in_three c.args.dates.now c.args.codes.now h H)
+    second_of_three _ _ _ c.args.draft.now c.draft_nights.new.draft _ (nights_text c.args.dates.now h H) (stays_text c.args.codes.now h H) (value_text H) _ _
+    (report_in_three c.args.dates.now c.args.codes.now h H)
     c.from_residual-in_err-draft_stays.ensures.0 c.in_ok-draft_nights.ensures.writes c.in_err-draft_stays.ensures.writes
 
 pub returns-clause-writes : goal.returns-clause-writes
@@ -50,6 +54,9 @@ returns-clause-writes g c =
     let h = c.args.book.now.house in
     let H = c.args.book.now.history in
     let value = ap (λ (k : Claim). k.value) c.behind-last_board.view_is ∙ value_is H _ _ c.last_board.ensures.last c.certificate.ensures.value in
-    let P : ℕ → Type 0 = λ v. Drafts (g.K.Sink.written c.draft_stays.new.out) (g.K.Sink.written c.push_wide_line.new.out) c.draft_stays.new.draft c.push_wide_line.new.self (text_of (line_of (codes "value") (v ∷ []) ∷ [])) c.push_wide_line.result in
-    all_three _ _ _ _ c.args.draft.now c.draft_nights.new.draft c.draft_stays.new.draft c.push_wide_line.new.self (nights_text c.args.dates.now h H) (stays_text c.args.codes.now h H) (value_text H) _ _
-    (report_in_three c.args.dates.now c.args.codes.now h H) c.in_ok-draft_nights.ensures.writes c.in_ok-draft_stays.ensures.writes (subst P value c.push_wide_line.ensures.writes)
+    let P : ℕ → Type 0 = λ v. Drafts (g.K.Sink.written c.draft_stays.new.out) (g.K.Sink.written c.push_wide_line.new.out)
+    c.draft_stays.new.draft c.push_wide_line.new.self (text_of (line_of (codes "value") (v ∷ []) ∷ [])) c.push_wide_line.result in
+    all_three _ _ _ _ c.args.draft.now c.draft_nights.new.draft c.draft_stays.new.draft c.push_wide_line.new.self (nights_text c.args.dates.now h H)
+    (stays_text c.args.codes.now h H) (value_text H) _ _
+    (report_in_three c.args.dates.now c.args.codes.now h H) c.in_ok-draft_nights.ensures.writes c.in_ok-draft_stays.ensures.writes
+    (subst P value c.push_wide_line.ensures.writes)

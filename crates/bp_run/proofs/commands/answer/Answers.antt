@@ -7,7 +7,11 @@ use Rattle.bp_run.proofs.commands.answer.Goals as goal
 
 pub returns-in_ok-answer-in-Check-clause-concludes : goal.returns-in_ok-answer-in-Check-clause-concludes
 returns-in_ok-answer-in-Check-clause-concludes g c =
-    rw (c.in-Check.is, sym c.text.ensures, sym c.text-in-Check.ensures) (record { own = c.in_ok-answer-in-Check.field-0; is = refl; answered = c.in_ok-answer-in-Check.ensures })
+    rw (
+      c.in-Check.is,
+      sym c.text.ensures,
+      sym c.text-in-Check.ensures,
+    ) (record { own = c.in_ok-answer-in-Check.field-0; is = refl; answered = c.in_ok-answer-in-Check.ensures })
 
 pub returns-in_ok-answer-in-Solve-clause-concludes : goal.returns-in_ok-answer-in-Solve-clause-concludes
 returns-in_ok-answer-in-Solve-clause-concludes g c =
@@ -19,7 +23,11 @@ returns-in_ok-answer-in-Group-clause-concludes g c =
 
 pub returns-in_ok-answer-in-Judge-clause-concludes : goal.returns-in_ok-answer-in-Judge-clause-concludes
 returns-in_ok-answer-in-Judge-clause-concludes g c =
-    rw (c.in-Judge.is, sym c.text-in-Judge.ensures, sym c.text-in-Judge-2.ensures) (record { own = c.in_ok-answer-in-Judge.field-0; is = refl; answered = c.in_ok-answer-in-Judge.ensures })
+    rw (
+      c.in-Judge.is,
+      sym c.text-in-Judge.ensures,
+      sym c.text-in-Judge-2.ensures,
+    ) (record { own = c.in_ok-answer-in-Judge.field-0; is = refl; answered = c.in_ok-answer-in-Judge.ensures })
 
 pub returns-in_ok-replayed-in-Replay-clause-concludes : goal.returns-in_ok-replayed-in-Replay-clause-concludes
 returns-in_ok-replayed-in-Replay-clause-concludes g c =
@@ -49,3 +57,8 @@ answer-requires-in-Demo g c = let P : ReadTask → Type 0 = λ t. HasDemoNumbers
 pub returns-in_ok-answer-in-Demo-clause-concludes : goal.returns-in_ok-answer-in-Demo-clause-concludes
 returns-in_ok-answer-in-Demo-clause-concludes g c =
     rw c.in-Demo.is (record { own = c.in_ok-answer-in-Demo.field-0; is = refl; answered = c.in_ok-answer-in-Demo.ensures })
+
+pub returns-in_ok-answer_alone-in-Scenarios-clause-concludes : goal.returns-in_ok-answer_alone-in-Scenarios-clause-concludes
+returns-in_ok-answer_alone-in-Scenarios-clause-concludes g c =
+    rw (c.in-Scenarios.is, sym c.text-in-Scenarios.ensures, sym c.text-in-Scenarios-2.ensures)
+    (record { own = c.in_ok-answer_alone-in-Scenarios.field-0; is = refl; answered = c.in_ok-answer_alone-in-Scenarios.ensures })

@@ -11,4 +11,5 @@ returns-clause-follows g c =
       Accepts = g.K.Kind.accepts c.args.kind.now;
       Refuses = g.K.Kind.refuses c.args.kind.now;
     } in
-    stops_by_reader _ stage _ _ _ _ c.in-Err.unread _ c.in_ok-bytes.ensures.leaves c.most_bytes.ensures c.in_ok-bytes.ensures.read c.deref.ensures.value c.in-Err.ensures.refused c.by_reader.ensures
+    stops_by_reader _ stage _ _ _ _ c.in-Err.unread _ c.in_ok-bytes.ensures.leaves c.most_bytes.ensures c.in_ok-bytes.ensures.read c.deref.ensures.value
+    c.in-Err.ensures.refused c.by_reader.ensures

@@ -1,16 +1,7 @@
-use Rattle.std.proofs.Common.{arith}
-use Rattle.bp_run.proofs.EndLemmas.{serves, plain_known}
-use Rattle.bp_run.proofs.CompleteLemmas.{complete, holds_all}
-use Rattle.bp_run.proofs.SoundCommands.{AreTextsReadOneWay, sound}
 use Rattle.bp_run.proofs.top.run_plain.Goals as goal
 
 pub returns-in-Ok-clause-serves : goal.returns-in-Ok-clause-serves
-returns-in-Ok-clause-serves g c =
-    let law : AreTextsReadOneWay = record { problems = c.problems_have_one_spelling.ensures.reading; certificates = c.certificates_have_one_spelling.ensures.reading; journals = c.journals_have_one_spelling.ensures.reading; scenarios = c.scenarios_have_one_spelling.ensures.reading; lists = c.lists_have_one_spelling.ensures.reading } in
-    let each = sound law in
-    serves _ _ _ c.in-Ok.end c.in-Ok.ensures.end c.in-Ok.ensures.unfailing
-    (λ steady all. complete each _ _ c.in-Ok.end all c.in-Ok.ensures.end (c.in-Ok.ensures.unfailing steady (holds_all each _ _ all)))
-    c.finish.result _ c.number.ensures c.finish.ensures
+returns-in-Ok-clause-serves g c = c.run_task.ensures.serves _ c.in-Ok.ensures
 
-pub returns-in-Ok-clause-known : goal.returns-in-Ok-clause-known
-returns-in-Ok-clause-known g c = let number = c.number.ensures in let small = plain_known _ c.in-Ok.end c.finish.result c.in-Ok.ensures.plain c.finish.ensures in omega arith
+pub returns-in-Err-Usage-clause-serves : goal.returns-in-Err-Usage-clause-serves
+returns-in-Err-Usage-clause-serves g c = c.run_no_task.ensures.serves _ (c.in-Err-Usage.ensures c.in-Err-Usage.field-0-is)

@@ -3,4 +3,5 @@ use Rattle.bp_scenarios.proofs.printed.write_outcomes.Goals as goal
 
 pub returns-clause-writes : goal.returns-clause-writes
 returns-clause-writes g c =
-    all_new_written _ _ _ c.in_ok-draft.draft c.draft_outcomes.new.draft _ c.hand_on.result c.in_ok-draft.ensures c.in_ok-draft_outcomes.ensures.writes c.hand_on.ensures.writes
+    all_new_written _ _ _ c.in_ok-draft.draft c.draft_outcomes.new.draft _ c.hand_on.result c.in_ok-draft.ensures c.in_ok-draft_outcomes.ensures.writes
+    c.hand_on.ensures.writes

@@ -11,7 +11,9 @@ pub returns-in_err-first_line : goal.returns-in_err-first_line
 returns-in_err-first_line c =
     let W = IsChangeOf c.args.size.nights c.args.size.stays in
     let p = err_from_is_err_and c.from_residual.result c.from_residual.ensures.1 in
-    rw (p.1, p.2) (refused_here scenario_lines (AreWithin W) [] IsFirst IsAnyLine c.args.lines.now c.args.lines.now _ _ (first_place W) (no_lines c.args.lines.now) c.in_err-first_line.ensures)
+    rw (p.1, p.2) (refused_here scenario_lines (AreWithin W) [] IsFirst IsAnyLine c.args.lines.now c.args.lines.now _ _ (first_place W)
+    (no_lines c.args.lines.now) c.in_err-first_line.ensures)
 
 pub returns : goal.returns
-returns c = read_all (IsChangeOf c.args.size.nights c.args.size.stays) c.args.lines.now c.first_line.new.lines c.read_rows.new.lines _ c.in_ok-first_line.ensures c.read_rows.ensures
+returns c = read_all (IsChangeOf c.args.size.nights c.args.size.stays)
+    c.args.lines.now c.first_line.new.lines c.read_rows.new.lines _ c.in_ok-first_line.ensures c.read_rows.ensures

@@ -9,4 +9,5 @@ returns-clause-text c = of_size c.args.base.now _ _ c.args.bytes.now _ c.nights.
 pub returns-clause-askable : goal.returns-clause-askable
 returns-clause-askable c =
     seen_ok (λ v. v.items) (All (IsAskable c.args.base.now)) c.read_of.result
-    (askable_text c.args.base.now c.args.bytes.now _ (of_size c.args.base.now _ _ c.args.bytes.now _ c.nights.ensures.value c.stays.ensures.value c.read_of.ensures))
+    (askable_text c.args.base.now c.args.bytes.now _
+    (of_size c.args.base.now _ _ c.args.bytes.now _ c.nights.ensures.value c.stays.ensures.value c.read_of.ensures))

@@ -16,10 +16,15 @@ apply-requires c =
 pub returns-clause-fit : goal.returns-clause-fit
 returns-clause-fit c none =
     let on = c.loop-change.invariant.1 in
-    fit_in_turn 1 c.args.instance.now _ _ c.requires.each (search rules) (search rules) (sym on.same ∙ none_refused c.loop-change.number c.loop-change.instance c.args.changes.now c.loop-change.change-index (omega (arith, c.loop-change-test.false)))
+    fit_in_turn 1 c.args.instance.now _ _ c.requires.each (search rules) (search rules) (sym on.same ∙
+    none_refused c.loop-change.number c.loop-change.instance c.args.changes.now c.loop-change.change-index (omega (arith, c.loop-change-test.false)))
 
 pub loop-change-preserved : goal.loop-change-preserved
 loop-change-preserved c =
     let on = c.loop-change.invariant in
-    let P : Program → Type 0 = λ q. IsOnWay c.args.instance.now c.args.changes.now (c.loop-change.number + 1) q (drop (c.loop-change.change-index + 1) c.args.changes.now) in
-    (omega (arith, on.0), subst P (sym c.apply.ensures.changed) (one_further _ _ _ _ _ _ c.loop-change-test.true (sym c.breaks_limit.ensures ∙ c.if-breaks_limit.false) on.1))
+    let P : Program → Type 0 =
+    λ q. IsOnWay c.args.instance.now c.args.changes.now (c.loop-change.number + 1) q (drop (c.loop-change.change-index + 1) c.args.changes.now) in (
+      omega (arith, on.0),
+      subst P (sym c.apply.ensures.changed) (one_further _ _ _ _ _ _ c.loop-change-test.true (sym c.breaks_limit.ensures ∙
+          c.if-breaks_limit.false) on.1),
+    )

@@ -6,4 +6,5 @@ pub returns-in-None : goal.returns-in-None
 returns-in-None c = not_found (IsChangeOf c.args.size.nights c.args.size.stays) c.args.line.now c.new-words.result c.new-words.ensures c.in-None.ensures
 
 pub returns-in-Some : goal.returns-in-Some
-returns-in-Some c = found_line (IsChangeOf c.args.size.nights c.args.size.stays) c.args.line.now c.new-words.result c.in-Some.told c.judged.result c.new-words.ensures c.in-Some.ensures c.judged.ensures
+returns-in-Some c = found_line (IsChangeOf c.args.size.nights c.args.size.stays)
+    c.args.line.now c.new-words.result c.in-Some.told c.judged.result c.new-words.ensures c.in-Some.ensures c.judged.ensures

@@ -13,7 +13,8 @@ returns-in-Some-number c =
       Rooms (record { from = w.0; to = w.1 }) c.in-Some-is_up.up v.0,
       refl,
       w.2 ∙ ap (λ ws. spelled w.0 ∷ spelled w.1 ∷ ws) (c.in-Some-is_up.ensures ∙ ap (λ ws. direction c.in-Some-is_up.up ∷ ws) v.1),
-      rooms_told c.args.size.nights c.args.size.stays w.0 w.1 v.0 c.in-Some-is_up.up c.in-Some.from c.in-Some.to c.in-Some-number.units c.is_no_move-great.result w.3 (subst (λ k. IsCounted k w.1 c.in-Some.to) c.from.ensures w.4) v.2 c.is_no_move-great.ensures,
+      rooms_told c.args.size.nights c.args.size.stays w.0 w.1 v.0 c.in-Some-is_up.up c.in-Some.from c.in-Some.to c.in-Some-number.units
+          c.is_no_move-great.result w.3 (subst (λ k. IsCounted k w.1 c.in-Some.to) c.from.ensures w.4) v.2 c.is_no_move-great.ensures,
     )
 
 pub returns-in-None : goal.returns-in-None

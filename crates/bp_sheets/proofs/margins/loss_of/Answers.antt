@@ -6,7 +6,8 @@ use Rattle.bp_sheets.proofs.margins.loss_of.Goals as goal
 pub returns : goal.returns
 returns g c =
     let rooms = c.args.solver.now.flow.program.rooms in
-    let falls = fewer_is_less c.args.solver.now.flow.program (night_span c.args.night) 1 c.args.value c.in_ok-fewer.fewer c.requires.optimum c.in_ok-fewer.ensures in
+    let falls = fewer_is_less c.args.solver.now.flow.program (night_span c.args.night)
+    1 c.args.value c.in_ok-fewer.fewer c.requires.optimum c.in_ok-fewer.ensures in
     let some : 1 ≤ slice_index rooms c.args.night = omega arith in
     record {
       in_range = c.requires.in_range;

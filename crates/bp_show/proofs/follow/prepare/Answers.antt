@@ -12,4 +12,5 @@ pub returns-clause-place : goal.returns-clause-place
 returns-clause-place c =
     let old = c.args.place.now.me in
     let more : suc old.0.stamp ≡ old.0.stamp + 1 = omega arith in
-    c.split_seat.ensures.2 ∙ c.compare_exchange_with.ensures.2 c.args.vector.now refl ∙ ap (λ (n : ℕ). (record old.0 { stamp = n; claim = c.args.vector.now ∷ [] }, old.1)) more
+    c.split_seat.ensures.2 ∙ c.compare_exchange_with.ensures.2 c.args.vector.now refl ∙
+    ap (λ (n : ℕ). (record old.0 { stamp = n; claim = c.args.vector.now ∷ [] }, old.1)) more

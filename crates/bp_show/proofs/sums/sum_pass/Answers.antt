@@ -9,4 +9,5 @@ loop-night-preserved c =
     let prices = last_prices c.args.pass.now.seen in
     let night = c.loop-night.night in
     let span : Span = record { from = night; to = c.args.nights } in
-    one_more prices c.loop-night.sums night c.quote-rest.result.sum (omega arith) (c.quote-rest.ensures.sum ∙ price_to_last prices span (omega arith) (omega (arith, c.requires.prices))) c.loop-night.invariant
+    one_more prices c.loop-night.sums night c.quote-rest.result.sum (omega arith) (c.quote-rest.ensures.sum ∙
+    price_to_last prices span (omega arith) (omega (arith, c.requires.prices))) c.loop-night.invariant

@@ -16,6 +16,10 @@ loop-stay-preserved c =
     let stay : Stay = get_or c.args.stays.now c.loop-stay.stay no_stay in
     record {
       size = rw items (omega (arith, c.add.auto.sold, inv.size, ap (λ xs. length xs) c.deref_mut.ensures.value));
-      each = λ n below. rw items (stay_more c.args.counts.now c.args.stays.now c.loop-stay.stay n stay.span _ _ c.unwrap_or.result refl c.unwrap_or.ensures (inv.each n below) (added n (omega (arith, inv.size))));
-      small = λ n below. rw items (small_more (covers stay.span n) _ _ c.unwrap_or.result MOST_FORECAST c.loop-stay.stay (rw c.unwrap_or.ensures few) (inv.small n below) (added n (omega (arith, inv.size))));
+      each = λ n below. rw items
+          (stay_more c.args.counts.now c.args.stays.now c.loop-stay.stay n stay.span _ _ c.unwrap_or.result refl c.unwrap_or.ensures (inv.each n below)
+          (added n (omega (arith, inv.size))));
+      small = λ n below. rw items
+          (small_more (covers stay.span n) _ _ c.unwrap_or.result MOST_FORECAST c.loop-stay.stay (rw c.unwrap_or.ensures few) (inv.small n below)
+          (added n (omega (arith, inv.size))));
     }

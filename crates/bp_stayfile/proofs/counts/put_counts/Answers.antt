@@ -14,8 +14,10 @@ returns-in_err-counted-clause-refused c =
     let so_far = c.loop-row.invariant in
     let next = rw c.in-Some.is at c.in_ok-row.ensures.next in
     let row : Record = c.in-Some.row.fields in
-    let wrong = count_rule-err c.args.codes.now so_far.before c.in-Some.row.line row c.in_err-counted.field-0.0 (omega (arith, next.line, so_far.line)) (sym c.in_err-counted.ensures) in
-    let refused = refused_at (count_rule c.args.codes.now) c.args.header.behind c.loop-row.at c.in-Some.row so_far.before c.in_err-counted.field-0.0 so_far.read next wrong in
+    let wrong = count_rule-err c.args.codes.now so_far.before c.in-Some.row.line row c.in_err-counted.field-0.0 (omega (arith, next.line, so_far.line))
+    (sym c.in_err-counted.ensures) in
+    let refused = refused_at (count_rule c.args.codes.now)
+    c.args.header.behind c.loop-row.at c.in-Some.row so_far.before c.in_err-counted.field-0.0 so_far.read next wrong in
     rw (p.1, p.2) (so_far.before, refused, so_far.laid_out)
 
 pub returns-in_err-put-clause-refused : goal.returns-in_err-put-clause-refused
@@ -29,7 +31,8 @@ returns-in_err-put-clause-refused c =
     let tells = counted_in-tells c.args.codes.now line row counted (sym c.in_ok-counted.ensures) in
     let taken : is_some (count_of so_far.before counted.stay) ≡ true = rw (← so_far.laid_out.each counted.stay tells.0) c.in_err-put.ensures.1 in
     let wrong = count_rule-twice c.args.codes.now so_far.before line row counted (omega (arith, next.line, so_far.line)) (sym c.in_ok-counted.ensures) taken in
-    let refused = refused_at (count_rule c.args.codes.now) c.args.header.behind c.loop-row.at c.in-Some.row so_far.before (TwiceCode line) so_far.read next wrong in
+    let refused = refused_at (count_rule c.args.codes.now) c.args.header.behind c.loop-row.at c.in-Some.row so_far.before (TwiceCode line)
+    so_far.read next wrong in
     rw (p.1, p.2, c.in_err-put.ensures.0, c.line.ensures, c.in_err-put.ensures.2) (so_far.before, refused, so_far.laid_out)
 
 pub loop-row-preserved : goal.loop-row-preserved
@@ -57,7 +60,11 @@ returns-in_err-row-clause-refused c =
     let so_far = c.loop-row.invariant in
     rw (p.1, p.2)
     (IfRefused-weaker c.in_err-row.field-0.0 _ _
-    (λ r stop. (so_far.before, refused_behind (count_rule c.args.codes.now) c.args.header.behind c.loop-row.at so_far.before r so_far.read stop, so_far.laid_out))
+    (λ r stop. (
+      so_far.before,
+      refused_behind (count_rule c.args.codes.now) c.args.header.behind c.loop-row.at so_far.before r so_far.read stop,
+      so_far.laid_out,
+    ))
     c.in_err-row.ensures.refused)
 
 pub returns-clause-read : goal.returns-clause-read

@@ -6,5 +6,6 @@ use Rattle.bp_stayfile.proofs.stays.set_each.Goals as goal
 
 pub returns : goal.returns
 returns c =
-    fill_by_all (λ j. forecast_by (get_or c.args.counts.now j None) (get_or c.args.stays.now j no_stay)) c.loop-stay.stays (length c.args.stays.now) no_stay c.loop-stay.auto.stays
+    fill_by_all (λ j. forecast_by (get_or c.args.counts.now j None) (get_or c.args.stays.now j no_stay)) c.loop-stay.stays (length c.args.stays.now)
+    no_stay c.loop-stay.auto.stays
     (λ k h. c.loop-stay.invariant.done k (omega arith))

@@ -24,9 +24,12 @@ returns-in_err-stay-clause-refused c =
     let p = err_from_is_err_and c.from_residual-in_err-stay.result c.from_residual-in_err-stay.ensures.1 in
     let so_far = c.loop-stays.invariant in
     let next = rw c.in-Some.is at c.in_ok-row.ensures.next in
-    let wrong = stay_rule-err c.args.hotel.now so_far.before c.loop-stays.codes c.in-Some.row.fields c.in_err-stay.field-0.0 so_far.codes (sym c.in_err-stay.ensures) in
-    let refused = refused_at (stay_rule c.args.hotel.now) c.args.header.behind c.loop-stays.at c.in-Some.row so_far.before c.in_err-stay.field-0.0 so_far.read next wrong in
-    rw (p.1, p.2) (ap (λ r. r >>= (λ coded. Ok (list_of c.args.hotel.now coded))) (refused_after-table (stay_rule c.args.hotel.now) c.args.header.behind so_far.before c.in_err-stay.field-0.0 refused))
+    let wrong = stay_rule-err c.args.hotel.now so_far.before c.loop-stays.codes c.in-Some.row.fields c.in_err-stay.field-0.0 so_far.codes
+    (sym c.in_err-stay.ensures) in
+    let refused = refused_at (stay_rule c.args.hotel.now)
+    c.args.header.behind c.loop-stays.at c.in-Some.row so_far.before c.in_err-stay.field-0.0 so_far.read next wrong in
+    rw (p.1, p.2) (ap (λ r. r >>= (λ coded. Ok (list_of c.args.hotel.now coded)))
+    (refused_after-table (stay_rule c.args.hotel.now) c.args.header.behind so_far.before c.in_err-stay.field-0.0 refused))
 
 pub loop-stays-preserved : goal.loop-stays-preserved
 loop-stays-preserved c =
@@ -52,7 +55,8 @@ pub invariant_of-result : goal.invariant_of-result
 invariant_of-result c =
     let so_far = c.loop-stays.invariant in
     rw (c.nights.ensures.value, so_far.codes, so_far.stays)
-    (list_of-tells c.args.hotel.now so_far.before (coded_tell c.args.hotel.now c.args.header.behind.rows (length so_far.read.first) so_far.before so_far.read.read))
+    (list_of-tells c.args.hotel.now so_far.before
+    (coded_tell c.args.hotel.now c.args.header.behind.rows (length so_far.read.first) so_far.before so_far.read.read))
 
 pub returns-in_err-row-clause-refused : goal.returns-in_err-row-clause-refused
 returns-in_err-row-clause-refused c =
@@ -61,7 +65,9 @@ returns-in_err-row-clause-refused c =
     let rule = stay_rule c.args.hotel.now in
     rw (p.1, p.2)
     (IfRefused-weaker c.in_err-row.field-0.0 _ _
-    (λ r stop. ap (λ t. t >>= (λ coded. Ok (list_of c.args.hotel.now coded))) (refused_after-table rule c.args.header.behind so_far.before r (refused_behind rule c.args.header.behind c.loop-stays.at so_far.before r so_far.read stop)))
+    (λ r stop. ap (λ t. t >>= (λ coded. Ok (list_of c.args.hotel.now coded)))
+    (refused_after-table rule c.args.header.behind so_far.before r
+    (refused_behind rule c.args.header.behind c.loop-stays.at so_far.before r so_far.read stop)))
     c.in_err-row.ensures.refused)
 
 pub returns-clause-read : goal.returns-clause-read

@@ -19,8 +19,11 @@ loop-rest-preserved c =
     elim c.match-number.branch [
       | in-Great w ↦
           let great = w.in-Great.ensures in
-          subst P (ap (λ v. v.items) (sym w.into-is)) (seen_great _ c.loop-rest.rest.now _ _ _ _ _ great.0 c.loop-rest.invariant c.in-Some.ensures great.2 (omega (arith, great.1, c.from.ensures)))
+          subst P (ap (λ v. v.items) (sym w.into-is))
+          (seen_great _ c.loop-rest.rest.now _ _ _ _ _ great.0 c.loop-rest.invariant c.in-Some.ensures great.2 (omega (arith, great.1, c.from.ensures)))
       | in-Value+in_ok-keep-in-Value w ↦
           let value = w.in-Value.ensures in
-          subst P (ap (λ v. v.items) (sym w.into-is)) (seen_value _ c.loop-rest.rest.now _ _ _ _ _ _ _ c.loop-rest.invariant c.in-Some.ensures value.1 (omega (arith, value.0, c.from.ensures)) w.in_ok-keep-in-Value.ensures)
+          subst P (ap (λ v. v.items) (sym w.into-is))
+          (seen_value _ c.loop-rest.rest.now _ _ _ _ _ _ _ c.loop-rest.invariant c.in-Some.ensures value.1 (omega (arith, value.0, c.from.ensures))
+          w.in_ok-keep-in-Value.ensures)
     ]

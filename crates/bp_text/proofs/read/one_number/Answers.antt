@@ -10,4 +10,5 @@ returns-then-text-ne-SPACE c = no_space_behind _ _ c.in-Some.text.now c.in-Some.
 pub returns : goal.returns
 returns c =
     let P : List ℕ → Type 0 = λ digits. IsReadAs digits c.args.greatest c.number.result in
-    number_behind _ _ c.in-Some.text.now c.args.greatest c.number.result c.in-Some.ensures (not_empty _ _ c.is_empty.ensures c.if-is_empty.false) c.if-text-ne-SPACE.false (subst P c.split_at.ensures.back c.number.ensures)
+    number_behind _ _ c.in-Some.text.now c.args.greatest c.number.result c.in-Some.ensures (not_empty _ _ c.is_empty.ensures c.if-is_empty.false)
+    c.if-text-ne-SPACE.false (subst P c.split_at.ensures.back c.number.ensures)

@@ -10,4 +10,5 @@ returns-else-eq c =
     let line : List ℕ = c.in-Some.line.now in
     let word : List ℕ = c.args.word.now in
     let decides = slice_eq-Decides Decides-eqb line word c.eq.result c.eq.ensures in
-    other_word word _ _ line _ c.in-Some.ensures c.given-place.ensures.value (λ (same : line ≡ word). let h = decides.1 same in let no = c.if-eq.false in absurd (cc))
+    other_word word _ _ line _ c.in-Some.ensures c.given-place.ensures.value (λ (same : line ≡ word). let h = decides.1 same in let no = c.if-eq.false in
+    absurd (cc))

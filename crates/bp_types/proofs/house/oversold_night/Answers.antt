@@ -6,7 +6,8 @@ use Rattle.bp_types.proofs.house.oversold_night.Goals as goal
 
 pub returns-then-rooms-night : goal.returns-then-rooms-night
 returns-then-rooms-night c =
-    sym (find-range_some (is_oversold c.args.rooms.now c.args.sold.now) 0 (length c.args.rooms.now) c.loop-night.night (omega arith) (omega arith) (λ k h g. c.loop-night.invariant k g) (lt-ltb _ _ c.if-rooms-night.true))
+    sym (find-range_some (is_oversold c.args.rooms.now c.args.sold.now) 0 (length c.args.rooms.now) c.loop-night.night (omega arith) (omega arith)
+    (λ k h g. c.loop-night.invariant k g) (lt-ltb _ _ c.if-rooms-night.true))
 
 pub returns : goal.returns
 returns c =

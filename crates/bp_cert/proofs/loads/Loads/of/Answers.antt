@@ -16,7 +16,11 @@ pub overflow_add-load : goal.overflow_add-load
 overflow_add-load c =
     let limits = c.nights-night-end.ensures.limits in
     let in_range : c.loop-night.night < MOST_NODES = omega (arith, limits.nights) in
-    omega (arith, c.of-moves.ensures.arrivals c.loop-night.night in_range, arrivals_fit c.args.instance.now c.args.sell.now c.loop-night.night c.loop-night.load limits c.requires.within c.loop-night.invariant.moves)
+    omega (
+      arith,
+      c.of-moves.ensures.arrivals c.loop-night.night in_range,
+      arrivals_fit c.args.instance.now c.args.sell.now c.loop-night.night c.loop-night.load limits c.requires.within c.loop-night.invariant.moves,
+    )
 
 pub loop-night-preserved : goal.loop-night-preserved
 loop-night-preserved c =
@@ -27,7 +31,8 @@ loop-night-preserved c =
     let in_range : n < MOST_NODES = omega (arith, limits.nights) in
     let arrive = c.of-moves.ensures.arrivals n in_range in
     let depart = c.of-moves.ensures.departures n in_range in
-    let now : (c.loop-night.load + slice_index c.of-moves.result.arrivals n) - slice_index c.of-moves.result.departures n ≡ load p sell n = omega (arith, arrive, depart, c.loop-night.invariant.moves) in
+    let now : (c.loop-night.load + slice_index c.of-moves.result.arrivals n) - slice_index c.of-moves.result.departures n ≡ load p sell n =
+    omega (arith, arrive, depart, c.loop-night.invariant.moves) in
     record {
       size = length-set _ _ _ ∙ c.loop-night.invariant.size;
       made = loads_more c.loop-night.loads (load p sell) n _ c.loop-night.invariant.size in_range now c.loop-night.invariant.made;

@@ -20,7 +20,11 @@ overflow_add-arrivals c =
     let span = limits.spans c.loop-stay.stay no_stay here in
     let k : ℕ = c.stay.result.span.from in
     let in_range : k < MOST_NODES = omega (arith, ap (λ (s : Stay). s.span.from) c.stay.ensures, span.0, span.1, limits.nights) in
-    omega (arith, one_more_fits c.args.instance.now c.args.sell.now (λ i. (stay_at c.args.instance.now i).span.from == k) c.loop-stay.stay (slice_index c.loop-stay.arrivals k) limits here c.requires.within (c.loop-stay.invariant.arrivals k in_range))
+    omega (
+      arith,
+      one_more_fits c.args.instance.now c.args.sell.now (λ i. (stay_at c.args.instance.now i).span.from == k) c.loop-stay.stay
+          (slice_index c.loop-stay.arrivals k) limits here c.requires.within (c.loop-stay.invariant.arrivals k in_range),
+    )
 
 pub overflow_add-departures : goal.overflow_add-departures
 overflow_add-departures c =
@@ -29,4 +33,8 @@ overflow_add-departures c =
     let span = limits.spans c.loop-stay.stay no_stay here in
     let k : ℕ = c.stay.result.span.to in
     let in_range : k < MOST_NODES = omega (arith, ap (λ (s : Stay). s.span.to) c.stay.ensures, span.1, limits.nights) in
-    omega (arith, one_more_fits c.args.instance.now c.args.sell.now (λ i. (stay_at c.args.instance.now i).span.to == k) c.loop-stay.stay (slice_index c.loop-stay.departures k) limits here c.requires.within (c.loop-stay.invariant.departures k in_range))
+    omega (
+      arith,
+      one_more_fits c.args.instance.now c.args.sell.now (λ i. (stay_at c.args.instance.now i).span.to == k) c.loop-stay.stay
+          (slice_index c.loop-stay.departures k) limits here c.requires.within (c.loop-stay.invariant.departures k in_range),
+    )

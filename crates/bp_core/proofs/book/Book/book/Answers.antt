@@ -33,13 +33,25 @@ pub index-requires : goal.index-requires
 index-requires c =
     let may = let P : Diary → Type 0 = λ b. MayDo b c.args.caller (Book c.args.stay) in subst P (sym c.self.view_is) c.requires in
     let within : c.args.stay < length c.self.inside.house.stays = ltb-true _ _ may.in_range in
-    omega (arith, within, c.self.inside.forecasts.ok.0, ap (λ (l : List ℕ). length l) c.self.invariant.forecasts_are, length-map-range_with_len (forecast_of c.self.inside.house c.self.inside.log.lines) 0 (length c.self.inside.house.stays))
+    omega (
+      arith,
+      within,
+      c.self.inside.forecasts.ok.0,
+      ap (λ (l : List ℕ). length l) c.self.invariant.forecasts_are,
+      length-map-range_with_len (forecast_of c.self.inside.house c.self.inside.log.lines) 0 (length c.self.inside.house.stays),
+    )
 
 pub index_mut-requires : goal.index_mut-requires
 index_mut-requires c =
     let may = let P : Diary → Type 0 = λ b. MayDo b c.args.caller (Book c.args.stay) in subst P (sym c.self.view_is) c.requires in
     let within : c.args.stay < length c.self.inside.house.stays = ltb-true _ _ may.in_range in
-    omega (arith, within, c.self.inside.forecasts.ok.0, ap (λ (l : List ℕ). length l) c.self.invariant.forecasts_are, length-map-range_with_len (forecast_of c.self.inside.house c.self.inside.log.lines) 0 (length c.self.inside.house.stays))
+    omega (
+      arith,
+      within,
+      c.self.inside.forecasts.ok.0,
+      ap (λ (l : List ℕ). length l) c.self.invariant.forecasts_are,
+      length-map-range_with_len (forecast_of c.self.inside.house c.self.inside.log.lines) 0 (length c.self.inside.house.stays),
+    )
 
 pub take-requires-clause-span : goal.take-requires-clause-span
 take-requires-clause-span c =
@@ -61,7 +73,8 @@ take-requires-clause-left c =
     let inside : c.stay.result.span.to ≤ length c.self.inside.house.rooms = omega (arith, spans.1, ap (λ (s : Span). s.to) span) in
     let reply = c.book_reply-reply.ensures ∙ ap (λ (b : Diary). book_reply b.house b.history c.args.stay) (sym c.self.view_is) in
     let accepted = sym c.is_accepted.ensures ∙ c.if-is_accepted.true in
-    let none = ap (λ s. first_short (rooms_left_at c.self.inside.house c.self.inside.log.lines) s 1) span ∙ accepted_has_room c.self.inside.house c.self.inside.log.lines c.args.stay (sym (ap is_accepted reply) ∙ accepted) in
+    let none = ap (λ s. first_short (rooms_left_at c.self.inside.house c.self.inside.log.lines) s 1) span ∙
+    accepted_has_room c.self.inside.house c.self.inside.log.lines c.args.stay (sym (ap is_accepted reply) ∙ accepted) in
     let P : Inventory → Type 0 = λ v. HasLeft v c.stay.result.span 1 in
     subst P (sym c.self.invariant.stock) (stock_has_left c.self.inside.house c.self.inside.log.lines c.stay.result.span 1 inside none)
 
@@ -77,7 +90,13 @@ add-requires-clause-room c =
     let may = let P : Diary → Type 0 = λ b. MayDo b c.args.caller (Book c.args.stay) in subst P (sym c.self.view_is) c.requires in
     let within : c.args.stay < length c.self.inside.house.stays = ltb-true _ _ may.in_range in
     let small = act_is_small c.self.inside.house c.self.inside.log.lines c.args.caller c.self.invariant.legal may.caller_may in
-    omega (arith, (c.self.invariant.bookings c.args.caller small).as_many, books_are_commands c.self.inside.log.lines c.args.caller, ltb-true _ _ (not_full_allowed _ _ c.self.invariant.legal may.not_full), c.self.invariant.roll_room)
+    omega (
+      arith,
+      (c.self.invariant.bookings c.args.caller small).as_many,
+      books_are_commands c.self.inside.log.lines c.args.caller,
+      ltb-true _ _ (not_full_allowed _ _ c.self.invariant.legal may.not_full),
+      c.self.invariant.roll_room,
+    )
 
 pub logged-requires-clause-room : goal.logged-requires-clause-room
 logged-requires-clause-room c =
@@ -95,7 +114,13 @@ add-requires-else-is_accepted-clause-room c =
     let may = let P : Diary → Type 0 = λ b. MayDo b c.args.caller (Book c.args.stay) in subst P (sym c.self.view_is) c.requires in
     let within : c.args.stay < length c.self.inside.house.stays = ltb-true _ _ may.in_range in
     let small = act_is_small c.self.inside.house c.self.inside.log.lines c.args.caller c.self.invariant.legal may.caller_may in
-    omega (arith, (c.self.invariant.bookings c.args.caller small).as_many, books_are_commands c.self.inside.log.lines c.args.caller, ltb-true _ _ (not_full_allowed _ _ c.self.invariant.legal may.not_full), c.self.invariant.roll_room)
+    omega (
+      arith,
+      (c.self.invariant.bookings c.args.caller small).as_many,
+      books_are_commands c.self.inside.log.lines c.args.caller,
+      ltb-true _ _ (not_full_allowed _ _ c.self.invariant.legal may.not_full),
+      c.self.invariant.roll_room,
+    )
 
 pub logged-requires-else-is_accepted-clause-room : goal.logged-requires-else-is_accepted-clause-room
 logged-requires-else-is_accepted-clause-room c =
@@ -108,19 +133,32 @@ invariant_of-self c =
     let small = act_is_small c.self.inside.house c.self.inside.log.lines c.args.caller c.self.invariant.legal may.caller_may in
     let reply = c.book_reply-reply.ensures ∙ ap (λ (b : Diary). book_reply b.house b.history c.args.stay) (sym c.self.view_is) in
     let H = c.self.inside.log.lines in
-    let from : c.position-position.result ≡ last_position c.self.inside.log.lines = c.position-position.ensures.value ∙ c.last_board.ensures.position ∙ ap (λ (b : Diary). last_position b.history) (sym c.self.view_is) in
+    let from : c.position-position.result ≡ last_position c.self.inside.log.lines = c.position-position.ensures.value ∙ c.last_board.ensures.position ∙
+    ap (λ (b : Diary). last_position b.history) (sym c.self.view_is) in
     let until : c.length.result ≡ length c.self.inside.log.lines = c.length.ensures.value ∙ ap (λ (b : Diary). length b.history) (sym c.self.view_is) in
-    let changes = c.changes_up_to-changes.ensures ∙ ap (λ (b : Diary). changes_between b.history c.position-position.result c.length.result) (sym c.self.view_is) ∙ ap (λ n. changes_between H n c.length.result) from ∙ ap (changes_between H (last_position H)) until in
-    let fresh : changes_after c.self.inside.log.lines (last_position c.self.inside.log.lines) < c.self.inside.house.limits.stale_after = omega (arith, changes, c.if-changes-limits.false, ap (λ (l : Limits). l.stale_after) c.limits.ensures.value) in
+    let changes = c.changes_up_to-changes.ensures ∙
+    ap (λ (b : Diary). changes_between b.history c.position-position.result c.length.result) (sym c.self.view_is) ∙
+    ap (λ n. changes_between H n c.length.result) from ∙ ap (changes_between H (last_position H)) until in
+    let fresh : changes_after c.self.inside.log.lines (last_position c.self.inside.log.lines) < c.self.inside.house.limits.stale_after =
+    omega (arith, changes, c.if-changes-limits.false, ap (λ (l : Limits). l.stale_after) c.limits.ensures.value) in
     let units = ap (λ (l : Limits). l.unit) c.limits-units.ensures.value in
-    let read = number_read (forecast_of c.self.inside.house c.self.inside.log.lines) (length c.self.inside.house.stays) c.args.stay _ c.self.inside.forecasts.items c.self.invariant.forecasts_are within c.index.ensures in
-    let value : c.saturating_sub-value.result ≡ forecast_of c.self.inside.house c.self.inside.log.lines c.args.stay - c.self.inside.house.limits.unit = c.saturating_sub-value.ensures ∙ ap (λ n. n - c.limits-units.result.unit) read ∙ ap (λ u. forecast_of c.self.inside.house c.self.inside.log.lines c.args.stay - u) units in
+    let read = number_read (forecast_of c.self.inside.house c.self.inside.log.lines) (length c.self.inside.house.stays)
+    c.args.stay _ c.self.inside.forecasts.items c.self.invariant.forecasts_are within c.index.ensures in
+    let value : c.saturating_sub-value.result ≡ forecast_of c.self.inside.house c.self.inside.log.lines c.args.stay - c.self.inside.house.limits.unit =
+    c.saturating_sub-value.ensures ∙ ap (λ n. n - c.limits-units.result.unit) read ∙
+    ap (λ u. forecast_of c.self.inside.house c.self.inside.log.lines c.args.stay - u) units in
     let span = ap (λ (s : Stay). s.span) c.stay.ensures in
     let accepted = sym c.is_accepted.ensures ∙ c.if-is_accepted.true in
     let x : Line = plain_line c.args.caller (Do (Book c.args.stay)) c.book_reply-reply.result in
-    let log = c.logged.ensures.log ∙ ap (λ (d : List Change). pushed c.self.inside.log x d) (deltas_booked c.self.inside.house c.self.inside.log.lines c.args.caller c.args.stay _ _ _ c.book_reply-reply.result accepted span units value) in
-    let stock = c.take.ensures ∙ ap (λ v. taken v c.stay.result.span 1) c.self.invariant.stock ∙ ap (λ s. taken (inventory_of c.self.inside.house c.self.inside.log.lines) s 1) span ∙ stock_booked c.self.inside.house c.self.inside.log.lines c.args.caller c.args.stay c.book_reply-reply.result accepted in
-    rw c.add.ensures (in_step_more _ _ _ _ _ _ _ _ _ _ _ _ c.self.invariant (book_is_legal _ _ c.args.caller c.args.stay _ c.self.invariant.legal may.caller_may may.in_range may.not_full fresh reply) log (book_follows _ _ _ _ _ _ _ c.args.caller c.args.stay _ _ _ c.self.invariant small within value refl (ap (λ b. fate_by b false) (sym accepted)) stock))
+    let log = c.logged.ensures.log ∙
+    ap (λ (d : List Change). pushed c.self.inside.log x d)
+    (deltas_booked c.self.inside.house c.self.inside.log.lines c.args.caller c.args.stay _ _ _ c.book_reply-reply.result accepted span units value) in
+    let stock = c.take.ensures ∙ ap (λ v. taken v c.stay.result.span 1) c.self.invariant.stock ∙
+    ap (λ s. taken (inventory_of c.self.inside.house c.self.inside.log.lines) s 1) span ∙
+    stock_booked c.self.inside.house c.self.inside.log.lines c.args.caller c.args.stay c.book_reply-reply.result accepted in
+    rw c.add.ensures (in_step_more _ _ _ _ _ _ _ _ _ _ _ _ c.self.invariant
+    (book_is_legal _ _ c.args.caller c.args.stay _ c.self.invariant.legal may.caller_may may.in_range may.not_full fresh reply) log
+    (book_follows _ _ _ _ _ _ _ c.args.caller c.args.stay _ _ _ c.self.invariant small within value refl (ap (λ b. fate_by b false) (sym accepted)) stock))
 
 pub invariant_of-self-else-is_accepted : goal.invariant_of-self-else-is_accepted
 invariant_of-self-else-is_accepted c =
@@ -129,15 +167,28 @@ invariant_of-self-else-is_accepted c =
     let small = act_is_small c.self.inside.house c.self.inside.log.lines c.args.caller c.self.invariant.legal may.caller_may in
     let reply = c.book_reply-reply.ensures ∙ ap (λ (b : Diary). book_reply b.house b.history c.args.stay) (sym c.self.view_is) in
     let H = c.self.inside.log.lines in
-    let from : c.position-position.result ≡ last_position c.self.inside.log.lines = c.position-position.ensures.value ∙ c.last_board.ensures.position ∙ ap (λ (b : Diary). last_position b.history) (sym c.self.view_is) in
+    let from : c.position-position.result ≡ last_position c.self.inside.log.lines = c.position-position.ensures.value ∙ c.last_board.ensures.position ∙
+    ap (λ (b : Diary). last_position b.history) (sym c.self.view_is) in
     let until : c.length.result ≡ length c.self.inside.log.lines = c.length.ensures.value ∙ ap (λ (b : Diary). length b.history) (sym c.self.view_is) in
-    let changes = c.changes_up_to-changes.ensures ∙ ap (λ (b : Diary). changes_between b.history c.position-position.result c.length.result) (sym c.self.view_is) ∙ ap (λ n. changes_between H n c.length.result) from ∙ ap (changes_between H (last_position H)) until in
-    let fresh : changes_after c.self.inside.log.lines (last_position c.self.inside.log.lines) < c.self.inside.house.limits.stale_after = omega (arith, changes, c.if-changes-limits.false, ap (λ (l : Limits). l.stale_after) c.limits.ensures.value) in
+    let changes = c.changes_up_to-changes.ensures ∙
+    ap (λ (b : Diary). changes_between b.history c.position-position.result c.length.result) (sym c.self.view_is) ∙
+    ap (λ n. changes_between H n c.length.result) from ∙ ap (changes_between H (last_position H)) until in
+    let fresh : changes_after c.self.inside.log.lines (last_position c.self.inside.log.lines) < c.self.inside.house.limits.stale_after =
+    omega (arith, changes, c.if-changes-limits.false, ap (λ (l : Limits). l.stale_after) c.limits.ensures.value) in
     let units = ap (λ (l : Limits). l.unit) c.limits-units.ensures.value in
-    let read = number_read (forecast_of c.self.inside.house c.self.inside.log.lines) (length c.self.inside.house.stays) c.args.stay _ c.self.inside.forecasts.items c.self.invariant.forecasts_are within c.index.ensures in
-    let value : c.saturating_sub-value.result ≡ forecast_of c.self.inside.house c.self.inside.log.lines c.args.stay - c.self.inside.house.limits.unit = c.saturating_sub-value.ensures ∙ ap (λ n. n - c.limits-units.result.unit) read ∙ ap (λ u. forecast_of c.self.inside.house c.self.inside.log.lines c.args.stay - u) units in
+    let read = number_read (forecast_of c.self.inside.house c.self.inside.log.lines) (length c.self.inside.house.stays)
+    c.args.stay _ c.self.inside.forecasts.items c.self.invariant.forecasts_are within c.index.ensures in
+    let value : c.saturating_sub-value.result ≡ forecast_of c.self.inside.house c.self.inside.log.lines c.args.stay - c.self.inside.house.limits.unit =
+    c.saturating_sub-value.ensures ∙ ap (λ n. n - c.limits-units.result.unit) read ∙
+    ap (λ u. forecast_of c.self.inside.house c.self.inside.log.lines c.args.stay - u) units in
     let refused = sym c.is_accepted.ensures ∙ c.if-is_accepted.false in
     let x : Line = plain_line c.args.caller (Do (Book c.args.stay)) c.book_reply-reply.result in
-    let log = c.logged-else-is_accepted.ensures.log ∙ ap (λ (d : List Change). pushed c.self.inside.log x d) (deltas_refused c.self.inside.house c.self.inside.log.lines c.args.caller c.args.stay _ c.book_reply-reply.result refused value) in
-    let stock = c.self.invariant.stock ∙ stock_refused c.self.inside.house c.self.inside.log.lines c.args.caller c.args.stay c.book_reply-reply.result refused in
-    rw c.add-else-is_accepted.ensures (in_step_more _ _ _ _ _ _ _ _ _ _ _ _ c.self.invariant (book_is_legal _ _ c.args.caller c.args.stay _ c.self.invariant.legal may.caller_may may.in_range may.not_full fresh reply) log (book_follows _ _ _ _ _ _ _ c.args.caller c.args.stay _ _ _ c.self.invariant small within value refl (ap (λ b. fate_by b false) (sym refused)) stock))
+    let log = c.logged-else-is_accepted.ensures.log ∙
+    ap (λ (d : List Change). pushed c.self.inside.log x d)
+    (deltas_refused c.self.inside.house c.self.inside.log.lines c.args.caller c.args.stay _ c.book_reply-reply.result refused value) in
+    let stock = c.self.invariant.stock ∙
+    stock_refused c.self.inside.house c.self.inside.log.lines c.args.caller c.args.stay c.book_reply-reply.result refused in
+    rw c.add-else-is_accepted.ensures
+    (in_step_more _ _ _ _ _ _ _ _ _ _ _ _ c.self.invariant
+    (book_is_legal _ _ c.args.caller c.args.stay _ c.self.invariant.legal may.caller_may may.in_range may.not_full fresh reply) log
+    (book_follows _ _ _ _ _ _ _ c.args.caller c.args.stay _ _ _ c.self.invariant small within value refl (ap (λ b. fate_by b false) (sym refused)) stock))

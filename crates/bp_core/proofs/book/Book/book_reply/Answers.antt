@@ -22,7 +22,14 @@ overflow_sub-vector c = omega (arith, c.vectors-vector.ensures, (ends_with _ _ c
 
 pub index-rate-requires : goal.index-rate-requires
 index-rate-requires c =
-    omega (arith, ap (λ (b : Diary). length b.house.stays) c.self.view_is, c.requires, c.self.inside.rates.ok.0, ap (λ (l : List ℕ). length l) c.self.invariant.rates_are, length-map-range_with_len (rate_of c.self.inside.house c.self.inside.log.lines) 0 (length c.self.inside.house.stays))
+    omega (
+      arith,
+      ap (λ (b : Diary). length b.house.stays) c.self.view_is,
+      c.requires,
+      c.self.inside.rates.ok.0,
+      ap (λ (l : List ℕ). length l) c.self.invariant.rates_are,
+      length-map-range_with_len (rate_of c.self.inside.house c.self.inside.log.lines) 0 (length c.self.inside.house.stays),
+    )
 
 pub returns-then-rate-sum : goal.returns-then-rate-sum
 returns-then-rate-sum c =
@@ -33,7 +40,8 @@ returns-then-rate-sum c =
     let vector = ap (λ n. n - 1) c.vectors-vector.ensures in
     let prices = c.last_board.ensures.prices ∙ ap (λ (b : Diary). last_prices b.history) (sym c.self.view_is) in
     let sum = c.price-sum.ensures ∙ ap (λ l. price l c.stay.result.span) prices ∙ ap (price (last_prices c.self.inside.log.lines)) span in
-    let rate = number_read (rate_of c.self.inside.house c.self.inside.log.lines) (length c.self.inside.house.stays) c.args.stay _ c.self.inside.rates.items c.self.invariant.rates_are within c.index-rate.ensures in
+    let rate = number_read (rate_of c.self.inside.house c.self.inside.log.lines) (length c.self.inside.house.stays)
+    c.args.stay _ c.self.inside.rates.items c.self.invariant.rates_are within c.index-rate.ensures in
     too_low_reply h H c.args.stay _ _ _ vector sum rate c.if-rate-sum.true ∙ ap (λ (b : Diary). book_reply b.house b.history c.args.stay) c.self.view_is
 
 pub first_full-requires : goal.first_full-requires
@@ -54,12 +62,16 @@ returns-in-Some c =
     let vector = ap (λ n. n - 1) c.vectors-vector.ensures in
     let prices = c.last_board.ensures.prices ∙ ap (λ (b : Diary). last_prices b.history) (sym c.self.view_is) in
     let sum = c.price-sum.ensures ∙ ap (λ l. price l c.stay.result.span) prices ∙ ap (price (last_prices c.self.inside.log.lines)) span in
-    let rate = number_read (rate_of c.self.inside.house c.self.inside.log.lines) (length c.self.inside.house.stays) c.args.stay _ c.self.inside.rates.items c.self.invariant.rates_are within c.index-rate.ensures in
+    let rate = number_read (rate_of c.self.inside.house c.self.inside.log.lines) (length c.self.inside.house.stays)
+    c.args.stay _ c.self.inside.rates.items c.self.invariant.rates_are within c.index-rate.ensures in
     let spans = c.self.invariant.house.instance.spans c.args.stay no_stay within in
     let ordered : c.stay.result.span.from < c.stay.result.span.to = omega (arith, spans.0, ap (λ (s : Span). s.from) span, ap (λ (s : Span). s.to) span) in
     let inside : c.stay.result.span.to ≤ length c.self.inside.house.rooms = omega (arith, spans.1, ap (λ (s : Span). s.to) span) in
-    let full = sym c.in-Some.is ∙ c.first_full.ensures ∙ ap (λ (v : Inventory). first_short (rooms_left_on v) c.stay.result.span 1) c.self.invariant.stock ∙ first_of_stock c.self.inside.house c.self.inside.log.lines c.stay.result.span 1 ordered inside ∙ ap (λ s. first_short (rooms_left_at c.self.inside.house c.self.inside.log.lines) s 1) span in
-    covered_is_reply h H c.args.stay _ _ _ _ vector sum rate c.if-rate-sum.false full ∙ ap (λ (b : Diary). book_reply b.house b.history c.args.stay) c.self.view_is
+    let full = sym c.in-Some.is ∙ c.first_full.ensures ∙ ap (λ (v : Inventory). first_short (rooms_left_on v) c.stay.result.span 1) c.self.invariant.stock ∙
+    first_of_stock c.self.inside.house c.self.inside.log.lines c.stay.result.span 1 ordered inside ∙
+    ap (λ s. first_short (rooms_left_at c.self.inside.house c.self.inside.log.lines) s 1) span in
+    covered_is_reply h H c.args.stay _ _ _ _ vector sum rate c.if-rate-sum.false full ∙
+    ap (λ (b : Diary). book_reply b.house b.history c.args.stay) c.self.view_is
 
 pub returns-in-None : goal.returns-in-None
 returns-in-None c =
@@ -70,9 +82,13 @@ returns-in-None c =
     let vector = ap (λ n. n - 1) c.vectors-vector.ensures in
     let prices = c.last_board.ensures.prices ∙ ap (λ (b : Diary). last_prices b.history) (sym c.self.view_is) in
     let sum = c.price-sum.ensures ∙ ap (λ l. price l c.stay.result.span) prices ∙ ap (price (last_prices c.self.inside.log.lines)) span in
-    let rate = number_read (rate_of c.self.inside.house c.self.inside.log.lines) (length c.self.inside.house.stays) c.args.stay _ c.self.inside.rates.items c.self.invariant.rates_are within c.index-rate.ensures in
+    let rate = number_read (rate_of c.self.inside.house c.self.inside.log.lines) (length c.self.inside.house.stays)
+    c.args.stay _ c.self.inside.rates.items c.self.invariant.rates_are within c.index-rate.ensures in
     let spans = c.self.invariant.house.instance.spans c.args.stay no_stay within in
     let ordered : c.stay.result.span.from < c.stay.result.span.to = omega (arith, spans.0, ap (λ (s : Span). s.from) span, ap (λ (s : Span). s.to) span) in
     let inside : c.stay.result.span.to ≤ length c.self.inside.house.rooms = omega (arith, spans.1, ap (λ (s : Span). s.to) span) in
-    let full = sym c.in-None.is ∙ c.first_full.ensures ∙ ap (λ (v : Inventory). first_short (rooms_left_on v) c.stay.result.span 1) c.self.invariant.stock ∙ first_of_stock c.self.inside.house c.self.inside.log.lines c.stay.result.span 1 ordered inside ∙ ap (λ s. first_short (rooms_left_at c.self.inside.house c.self.inside.log.lines) s 1) span in
-    covered_is_reply h H c.args.stay _ _ _ _ vector sum rate c.if-rate-sum.false full ∙ ap (λ (b : Diary). book_reply b.house b.history c.args.stay) c.self.view_is
+    let full = sym c.in-None.is ∙ c.first_full.ensures ∙ ap (λ (v : Inventory). first_short (rooms_left_on v) c.stay.result.span 1) c.self.invariant.stock ∙
+    first_of_stock c.self.inside.house c.self.inside.log.lines c.stay.result.span 1 ordered inside ∙
+    ap (λ s. first_short (rooms_left_at c.self.inside.house c.self.inside.log.lines) s 1) span in
+    covered_is_reply h H c.args.stay _ _ _ _ vector sum rate c.if-rate-sum.false full ∙
+    ap (λ (b : Diary). book_reply b.house b.history c.args.stay) c.self.view_is

@@ -39,7 +39,9 @@ invariant_of-self c =
     let from_one : 1 ≤ c.args.nth = leb-true _ _ (and_parts _ _ may.in_range).0 in
     let were = c.self.invariant.bookings c.args.caller small in
     let reply = none_reply c.self.inside.log.lines c.args.caller c.args.nth _ from_one were (sym c.booking.ensures ∙ c.in-None.is) in
-    in_step_more _ _ _ _ _ _ _ _ _ _ _ _ c.self.invariant (cancel_is_legal _ _ c.args.caller c.args.nth _ c.self.invariant.legal may.caller_may may.in_range may.not_full reply) c.logged.ensures.log (not_booked_follows _ _ _ _ _ _ c.args.caller c.args.nth c.self.invariant)
+    in_step_more _ _ _ _ _ _ _ _ _ _ _ _ c.self.invariant
+    (cancel_is_legal _ _ c.args.caller c.args.nth _ c.self.invariant.legal may.caller_may may.in_range may.not_full reply) c.logged.ensures.log
+    (not_booked_follows _ _ _ _ _ _ c.args.caller c.args.nth c.self.invariant)
 
 pub invariant_of-self-in-Refused : goal.invariant_of-self-in-Refused
 invariant_of-self-in-Refused c =
@@ -48,9 +50,12 @@ invariant_of-self-in-Refused c =
     let from_one : 1 ≤ c.args.nth = leb-true _ _ (and_parts _ _ may.in_range).0 in
     let were = c.self.invariant.bookings c.args.caller small in
     let place : c.args.nth - 1 + 1 ≡ c.args.nth = omega (arith, from_one) in
-    let kept = let P : ℕ → Type 0 = λ n. IsBookingOf c.self.inside.log.lines c.args.caller n c.in-Some.booking in subst P place (were.each (c.args.nth - 1) c.in-Some.booking (sym c.booking.ensures ∙ c.in-Some.is)) in
+    let kept = let P : ℕ → Type 0 = λ n. IsBookingOf c.self.inside.log.lines c.args.caller n c.in-Some.booking in
+    subst P place (were.each (c.args.nth - 1) c.in-Some.booking (sym c.booking.ensures ∙ c.in-Some.is)) in
     let reply = refused_reply c.self.inside.log.lines c.args.caller c.args.nth c.in-Some.booking kept c.in-Refused.is in
-    in_step_more _ _ _ _ _ _ _ _ _ _ _ _ c.self.invariant (cancel_is_legal _ _ c.args.caller c.args.nth _ c.self.invariant.legal may.caller_may may.in_range may.not_full reply) c.logged-in-Refused.ensures.log (not_booked_follows _ _ _ _ _ _ c.args.caller c.args.nth c.self.invariant)
+    in_step_more _ _ _ _ _ _ _ _ _ _ _ _ c.self.invariant
+    (cancel_is_legal _ _ c.args.caller c.args.nth _ c.self.invariant.legal may.caller_may may.in_range may.not_full reply) c.logged-in-Refused.ensures.log
+    (not_booked_follows _ _ _ _ _ _ c.args.caller c.args.nth c.self.invariant)
 
 pub invariant_of-self-in-GivenUp : goal.invariant_of-self-in-GivenUp
 invariant_of-self-in-GivenUp c =
@@ -59,9 +64,12 @@ invariant_of-self-in-GivenUp c =
     let from_one : 1 ≤ c.args.nth = leb-true _ _ (and_parts _ _ may.in_range).0 in
     let were = c.self.invariant.bookings c.args.caller small in
     let place : c.args.nth - 1 + 1 ≡ c.args.nth = omega (arith, from_one) in
-    let kept = let P : ℕ → Type 0 = λ n. IsBookingOf c.self.inside.log.lines c.args.caller n c.in-Some.booking in subst P place (were.each (c.args.nth - 1) c.in-Some.booking (sym c.booking.ensures ∙ c.in-Some.is)) in
+    let kept = let P : ℕ → Type 0 = λ n. IsBookingOf c.self.inside.log.lines c.args.caller n c.in-Some.booking in
+    subst P place (were.each (c.args.nth - 1) c.in-Some.booking (sym c.booking.ensures ∙ c.in-Some.is)) in
     let reply = again_reply c.self.inside.log.lines c.args.caller c.args.nth c.in-Some.booking kept c.in-GivenUp.is in
-    in_step_more _ _ _ _ _ _ _ _ _ _ _ _ c.self.invariant (cancel_is_legal _ _ c.args.caller c.args.nth _ c.self.invariant.legal may.caller_may may.in_range may.not_full reply) c.logged-in-GivenUp.ensures.log (again_follows _ _ _ _ _ _ c.args.caller c.args.nth c.self.invariant)
+    in_step_more _ _ _ _ _ _ _ _ _ _ _ _ c.self.invariant
+    (cancel_is_legal _ _ c.args.caller c.args.nth _ c.self.invariant.legal may.caller_may may.in_range may.not_full reply) c.logged-in-GivenUp.ensures.log
+    (again_follows _ _ _ _ _ _ c.args.caller c.args.nth c.self.invariant)
 
 pub give_up-requires-clause-held : goal.give_up-requires-clause-held
 give_up-requires-clause-held c =
@@ -70,7 +78,8 @@ give_up-requires-clause-held c =
     let from_one : 1 ≤ c.args.nth = leb-true _ _ (and_parts _ _ may.in_range).0 in
     let were = c.self.invariant.bookings c.args.caller small in
     let place : c.args.nth - 1 + 1 ≡ c.args.nth = omega (arith, from_one) in
-    let kept = let P : ℕ → Type 0 = λ n. IsBookingOf c.self.inside.log.lines c.args.caller n c.in-Some.booking in subst P place (were.each (c.args.nth - 1) c.in-Some.booking (sym c.booking.ensures ∙ c.in-Some.is)) in
+    let kept = let P : ℕ → Type 0 = λ n. IsBookingOf c.self.inside.log.lines c.args.caller n c.in-Some.booking in
+    subst P place (were.each (c.args.nth - 1) c.in-Some.booking (sym c.booking.ensures ∙ c.in-Some.is)) in
     let P : Diary → Type 0 = λ b. IsHeld b.history c.args.caller c.args.nth c.in-Some.booking.stay in
     subst P c.self.view_is (held_booking c.self.inside.log.lines c.args.caller c.args.nth c.in-Some.booking.stay c.in-Some.booking kept c.in-Held.is refl)
 
@@ -90,7 +99,8 @@ returns-in-Refused c =
     let from_one : 1 ≤ c.args.nth = leb-true _ _ (and_parts _ _ may.in_range).0 in
     let were = c.self.invariant.bookings c.args.caller small in
     let place : c.args.nth - 1 + 1 ≡ c.args.nth = omega (arith, from_one) in
-    let kept = let P : ℕ → Type 0 = λ n. IsBookingOf c.self.inside.log.lines c.args.caller n c.in-Some.booking in subst P place (were.each (c.args.nth - 1) c.in-Some.booking (sym c.booking.ensures ∙ c.in-Some.is)) in
+    let kept = let P : ℕ → Type 0 = λ n. IsBookingOf c.self.inside.log.lines c.args.caller n c.in-Some.booking in
+    subst P place (were.each (c.args.nth - 1) c.in-Some.booking (sym c.booking.ensures ∙ c.in-Some.is)) in
     let reply = refused_reply c.self.inside.log.lines c.args.caller c.args.nth c.in-Some.booking kept c.in-Refused.is in
     command_is_logged _ _ _ _ _ _ _ _ _ c.self.view_is c.logged-in-Refused.ensures.answer reply (ap (λ (l : LogView). l.lines) c.logged-in-Refused.ensures.log)
 
@@ -101,6 +111,7 @@ returns-in-GivenUp c =
     let from_one : 1 ≤ c.args.nth = leb-true _ _ (and_parts _ _ may.in_range).0 in
     let were = c.self.invariant.bookings c.args.caller small in
     let place : c.args.nth - 1 + 1 ≡ c.args.nth = omega (arith, from_one) in
-    let kept = let P : ℕ → Type 0 = λ n. IsBookingOf c.self.inside.log.lines c.args.caller n c.in-Some.booking in subst P place (were.each (c.args.nth - 1) c.in-Some.booking (sym c.booking.ensures ∙ c.in-Some.is)) in
+    let kept = let P : ℕ → Type 0 = λ n. IsBookingOf c.self.inside.log.lines c.args.caller n c.in-Some.booking in
+    subst P place (were.each (c.args.nth - 1) c.in-Some.booking (sym c.booking.ensures ∙ c.in-Some.is)) in
     let reply = again_reply c.self.inside.log.lines c.args.caller c.args.nth c.in-Some.booking kept c.in-GivenUp.is in
     command_is_logged _ _ _ _ _ _ _ _ _ c.self.view_is c.logged-in-GivenUp.ensures.answer reply (ap (λ (l : LogView). l.lines) c.logged-in-GivenUp.ensures.log)

@@ -8,7 +8,9 @@ use Rattle.bp_core.proofs.Enrolling.{enrol_is_legal, enrol_follows, enrol_is_sma
 use Rattle.bp_core.proofs.book.Book.enrol.Goals as goal
 
 pub set_standing-requires : goal.set_standing-requires
-set_standing-requires c = enrol_is_small _ _ _ c.self.invariant.legal (let P : Diary → Type 0 = λ b. IsTrue (may_log b.history c.args.caller Enrol) in subst P (sym c.self.view_is) c.requires.caller_may)
+set_standing-requires c =
+    enrol_is_small _ _ _ c.self.invariant.legal (let P : Diary → Type 0 = λ b. IsTrue (may_log b.history c.args.caller Enrol) in
+    subst P (sym c.self.view_is) c.requires.caller_may)
 
 pub logged-requires-clause-room : goal.logged-requires-clause-room
 logged-requires-clause-room c =
@@ -19,4 +21,6 @@ invariant_of-self c =
     let P : Diary → Type 0 = λ b. IsTrue (may_log b.history c.args.caller Enrol) in
     let may = subst P (sym c.self.view_is) c.requires.caller_may in
     let small = enrol_is_small _ _ _ c.self.invariant.legal may in
-    rw c.set_standing.ensures (in_step_more _ _ _ _ _ _ _ _ _ _ _ _ c.self.invariant (enrol_is_legal _ _ c.args.caller c.self.invariant.legal may) c.logged.ensures.log (enrol_follows _ _ _ _ _ _ c.args.caller c.self.invariant small may))
+    rw c.set_standing.ensures
+    (in_step_more _ _ _ _ _ _ _ _ _ _ _ _ c.self.invariant (enrol_is_legal _ _ c.args.caller c.self.invariant.legal may) c.logged.ensures.log
+    (enrol_follows _ _ _ _ _ _ c.args.caller c.self.invariant small may))

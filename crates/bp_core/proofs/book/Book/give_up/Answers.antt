@@ -61,8 +61,14 @@ release-requires-clause-sold c =
     let inside : c.stay.result.span.to ≤ length c.self.inside.house.rooms = omega (arith, spans.1, ap (λ (s : Span). s.to) span) in
     λ n above below.
     let covered : covers c.stay.result.span n ≡ true = and_from _ _ (le-leb _ _ above) (lt-ltb _ _ below) in
-    let sold = ap (λ (v : Inventory). slice_index v.sold n) c.self.invariant.stock ∙ sold_of_stock c.self.inside.house c.self.inside.log.lines n (omega (arith, inside, below)) in
-    omega (arith, sold, stock_has_sold c.self.inside.house c.self.inside.log.lines c.args.caller c.args.nth c.args.stay n from_one held (ap (λ s. covers s n) (sym span) ∙ covered))
+    let sold = ap (λ (v : Inventory). slice_index v.sold n) c.self.invariant.stock ∙
+    sold_of_stock c.self.inside.house c.self.inside.log.lines n (omega (arith, inside, below)) in
+    omega (
+      arith,
+      sold,
+      stock_has_sold c.self.inside.house c.self.inside.log.lines c.args.caller c.args.nth c.args.stay n from_one held
+          (ap (λ s. covers s n) (sym span) ∙ covered),
+    )
 
 pub set_booking-requires-clause-caller : goal.set_booking-requires-clause-caller
 set_booking-requires-clause-caller c =
@@ -98,9 +104,16 @@ invariant_of-self c =
     let inside : c.stay.result.span.to ≤ length c.self.inside.house.rooms = omega (arith, spans.1, ap (λ (s : Span). s.to) span) in
     let x : Line = plain_line c.args.caller (Do (Cancel c.args.nth)) Cancelled in
     let units = ap (λ (l : Limits). l.unit) c.limits-units.ensures.value in
-    let log = c.logged.ensures.log ∙ ap (λ s. pushed c.self.inside.log x (Rooms s true c.limits-units.result.unit ∷ [])) (span ∙ held_span c.self.inside.house c.self.inside.log.lines c.args.caller c.args.nth c.args.stay held) ∙ ap (λ u. pushed c.self.inside.log x (Rooms (span_booked c.self.inside.house c.self.inside.log.lines c.args.caller c.args.nth) true u ∷ [])) units in
+    let log = c.logged.ensures.log ∙
+    ap (λ s. pushed c.self.inside.log x (Rooms s true c.limits-units.result.unit ∷ [])) (span ∙
+    held_span c.self.inside.house c.self.inside.log.lines c.args.caller c.args.nth c.args.stay held) ∙
+    ap (λ u. pushed c.self.inside.log x (Rooms (span_booked c.self.inside.house c.self.inside.log.lines c.args.caller c.args.nth) true u ∷ [])) units in
     let stock = c.release.ensures ∙ ap (λ s. released c.self.inside.ledger s 1) span in
-    rw c.set_booking.ensures (in_step_more _ _ _ _ _ _ _ _ _ _ _ _ c.self.invariant (cancel_is_legal _ _ c.args.caller c.args.nth _ c.self.invariant.legal may.caller_may may.in_range may.not_full (held_reply c.self.inside.log.lines c.args.caller c.args.nth c.args.stay held)) log (give_up_follows _ _ _ _ _ _ _ c.args.caller c.args.nth c.args.stay _ c.self.invariant small from_one held refl refl stock))
+    rw c.set_booking.ensures
+    (in_step_more _ _ _ _ _ _ _ _ _ _ _ _ c.self.invariant
+    (cancel_is_legal _ _ c.args.caller c.args.nth _ c.self.invariant.legal may.caller_may may.in_range may.not_full
+    (held_reply c.self.inside.log.lines c.args.caller c.args.nth c.args.stay held)) log
+    (give_up_follows _ _ _ _ _ _ _ c.args.caller c.args.nth c.args.stay _ c.self.invariant small from_one held refl refl stock))
 
 pub returns : goal.returns
 returns c =
@@ -108,4 +121,5 @@ returns c =
     let small = act_is_small c.self.inside.house c.self.inside.log.lines c.args.caller c.self.invariant.legal may.caller_may in
     let from_one : 1 ≤ c.args.nth = leb-true _ _ (and_parts _ _ may.in_range).0 in
     let held = let P : Diary → Type 0 = λ b. IsHeld b.history c.args.caller c.args.nth c.args.stay in subst P (sym c.self.view_is) c.requires.held in
-    command_is_logged _ _ _ _ _ _ _ _ _ c.self.view_is c.logged.ensures.answer (held_reply c.self.inside.log.lines c.args.caller c.args.nth c.args.stay held) (ap (λ (l : LogView). l.lines) c.logged.ensures.log)
+    command_is_logged _ _ _ _ _ _ _ _ _ c.self.view_is c.logged.ensures.answer (held_reply c.self.inside.log.lines c.args.caller c.args.nth c.args.stay held)
+    (ap (λ (l : LogView). l.lines) c.logged.ensures.log)

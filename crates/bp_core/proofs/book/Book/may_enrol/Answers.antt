@@ -12,4 +12,5 @@ pub returns-then-caller-gt-MOST_CALLERS : goal.returns-then-caller-gt-MOST_CALLE
 returns-then-caller-gt-MOST_CALLERS c = far_does_not_enrol _ _ c.if-caller-gt-MOST_CALLERS.true
 
 pub returns : goal.returns
-returns c = c.is_new.ensures ∙ ap is_new (c.self.invariant.standings c.args.caller (omega arith)) ∙ new_may_enrol _ _ c.args.caller c.self.invariant.legal (omega arith) (omega arith) ∙ ap (λ (b : Diary). may_enrol b.history c.args.caller) c.self.view_is
+returns c = c.is_new.ensures ∙ ap is_new (c.self.invariant.standings c.args.caller (omega arith)) ∙
+    new_may_enrol _ _ c.args.caller c.self.invariant.legal (omega arith) (omega arith) ∙ ap (λ (b : Diary). may_enrol b.history c.args.caller) c.self.view_is

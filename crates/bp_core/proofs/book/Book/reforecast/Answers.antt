@@ -13,7 +13,13 @@ pub index_mut-requires : goal.index_mut-requires
 index_mut-requires c =
     let may = let P : Diary → Type 0 = λ b. MayDo b c.args.caller (Reforecast c.args.stay c.args.count) in subst P (sym c.self.view_is) c.requires in
     let within : c.args.stay < length c.self.inside.house.stays = ltb-true _ _ (and_parts _ _ may.in_range).0 in
-    omega (arith, within, c.self.inside.forecasts.ok.0, ap (λ (l : List ℕ). length l) c.self.invariant.forecasts_are, length-map-range_with_len (forecast_of c.self.inside.house c.self.inside.log.lines) 0 (length c.self.inside.house.stays))
+    omega (
+      arith,
+      within,
+      c.self.inside.forecasts.ok.0,
+      ap (λ (l : List ℕ). length l) c.self.invariant.forecasts_are,
+      length-map-range_with_len (forecast_of c.self.inside.house c.self.inside.log.lines) 0 (length c.self.inside.house.stays),
+    )
 
 pub logged-requires-clause-room : goal.logged-requires-clause-room
 logged-requires-clause-room c =
@@ -23,4 +29,6 @@ pub invariant_of-self : goal.invariant_of-self
 invariant_of-self c =
     let may = let P : Diary → Type 0 = λ b. MayDo b c.args.caller (Reforecast c.args.stay c.args.count) in subst P (sym c.self.view_is) c.requires in
     let within : c.args.stay < length c.self.inside.house.stays = ltb-true _ _ (and_parts _ _ may.in_range).0 in
-    in_step_more _ _ _ _ _ _ _ _ _ _ _ _ c.self.invariant (reforecast_is_legal _ _ c.args.caller c.args.stay c.args.count c.self.invariant.legal may.caller_may may.in_range may.not_full) c.logged.ensures.log (reforecast_follows _ _ _ _ _ _ c.args.caller c.args.stay c.args.count c.self.invariant within)
+    in_step_more _ _ _ _ _ _ _ _ _ _ _ _ c.self.invariant
+    (reforecast_is_legal _ _ c.args.caller c.args.stay c.args.count c.self.invariant.legal may.caller_may may.in_range may.not_full) c.logged.ensures.log
+    (reforecast_follows _ _ _ _ _ _ c.args.caller c.args.stay c.args.count c.self.invariant within)

@@ -7,9 +7,16 @@ use Rattle.bp_core.proofs.Stocking.{sold_of_stock}
 use Rattle.bp_core.proofs.book.Book.sold.Goals as goal
 
 pub sold-requires : goal.sold-requires
-sold-requires c = omega (arith, c.requires, ap (λ (b : Diary). length b.house.rooms) c.self.view_is, nights_of_stock c.self.inside.house c.self.inside.log.lines _ c.self.invariant.stock)
+sold-requires c = omega (
+  arith,
+  c.requires,
+  ap (λ (b : Diary). length b.house.rooms) c.self.view_is,
+  nights_of_stock c.self.inside.house c.self.inside.log.lines _ c.self.invariant.stock,
+)
 
 pub returns : goal.returns
 returns c =
     let within : c.args.night < length c.self.inside.house.rooms = omega (arith, c.requires, ap (λ (b : Diary). length b.house.rooms) c.self.view_is) in
-    c.sold.ensures.value ∙ ap (λ (v : Inventory). slice_index v.sold c.args.night) c.self.invariant.stock ∙ sold_of_stock c.self.inside.house c.self.inside.log.lines c.args.night within ∙ ap (λ (b : Diary). sold_at b.house b.history c.args.night) c.self.view_is
+    c.sold.ensures.value ∙ ap (λ (v : Inventory). slice_index v.sold c.args.night) c.self.invariant.stock ∙
+    sold_of_stock c.self.inside.house c.self.inside.log.lines c.args.night within ∙
+    ap (λ (b : Diary). sold_at b.house b.history c.args.night) c.self.view_is

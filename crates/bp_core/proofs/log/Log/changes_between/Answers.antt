@@ -12,14 +12,26 @@ index-requires c =
 
 pub index-requires-2 : goal.index-requires-2
 index-requires-2 c =
-    omega (arith, c.self.inside.counts.ok.0, counts-length _ _ _ _ _ c.self.invariant.0, ap (λ (l : LogView). length l.lines) c.self.view_is, c.requires.within, c.requires.ordered)
+    omega (
+      arith,
+      c.self.inside.counts.ok.0,
+      counts-length _ _ _ _ _ c.self.invariant.0,
+      ap (λ (l : LogView). length l.lines) c.self.view_is,
+      c.requires.within,
+      c.requires.ordered,
+    )
 
 pub overflow_sub-result : goal.overflow_sub-result
 overflow_sub-result c =
     let H : History = lines_of c.self.inside.entries.items (map arc_value c.self.inside.boards.items) in
     let last : c.args.until ≤ length H = omega (arith, ap (λ (l : LogView). length l.lines) c.self.view_is, c.requires.within) in
     let first : c.args.from ≤ length H = omega (arith, last, c.requires.ordered) in
-    omega (arith, count_read H _ _ _ _ c.args.until _ c.self.invariant.0 last c.index.ensures, count_read H _ _ _ _ c.args.from _ c.self.invariant.0 first c.index-2.ensures, changes_between-in H c.args.from c.args.until c.requires.ordered)
+    omega (
+      arith,
+      count_read H _ _ _ _ c.args.until _ c.self.invariant.0 last c.index.ensures,
+      count_read H _ _ _ _ c.args.from _ c.self.invariant.0 first c.index-2.ensures,
+      changes_between-in H c.args.from c.args.until c.requires.ordered,
+    )
 
 pub returns : goal.returns
 returns c =
@@ -27,4 +39,10 @@ returns c =
     let last : c.args.until ≤ length H = omega (arith, ap (λ (l : LogView). length l.lines) c.self.view_is, c.requires.within) in
     let first : c.args.from ≤ length H = omega (arith, last, c.requires.ordered) in
     let same = ap (λ (l : LogView). changes_between l.lines c.args.from c.args.until) c.self.view_is in
-    omega (arith, same, count_read H _ _ _ _ c.args.until _ c.self.invariant.0 last c.index.ensures, count_read H _ _ _ _ c.args.from _ c.self.invariant.0 first c.index-2.ensures, changes_between-in H c.args.from c.args.until c.requires.ordered)
+    omega (
+      arith,
+      same,
+      count_read H _ _ _ _ c.args.until _ c.self.invariant.0 last c.index.ensures,
+      count_read H _ _ _ _ c.args.from _ c.self.invariant.0 first c.index-2.ensures,
+      changes_between-in H c.args.from c.args.until c.requires.ordered,
+    )

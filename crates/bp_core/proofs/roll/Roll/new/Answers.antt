@@ -12,9 +12,13 @@ pub loop-preserved : goal.loop-preserved
 loop-preserved c =
     let room : c.args.room ≤ vec_capacity c.in_ok-with_capacity.field-0 = omega (arith, c.in_ok-with_capacity.ensures.exact) in
     record {
-      all_new = c.in_ok-push.ensures.items ∙ ap (λ (l : List Standing). l ++ New ∷ []) c.loop.invariant.all_new ∙ replicate-append-replicate c.loop.counter 1 New;
-      empty = ap (λ l. map items_of l) c.in_ok-push-2.ensures.items ∙ map-append items_of c.loop.bookings.items (c.in_ok-with_capacity.field-0 ∷ []) ∙ ap (λ (l : List (List Booking)). l ++ c.in_ok-with_capacity.field-0.items ∷ []) c.loop.invariant.empty ∙ ap (λ (i : List Booking). replicate c.loop.counter [] ++ i ∷ []) c.in_ok-with_capacity.ensures.items ∙ replicate-append-replicate c.loop.counter 1 [];
-      room = rw c.in_ok-push-2.ensures.items (All-push (λ (v : Vec Booking Global). c.args.room ≤ vec_capacity v) c.loop.bookings.items c.in_ok-with_capacity.field-0 c.loop.invariant.room room);
+      all_new = c.in_ok-push.ensures.items ∙ ap (λ (l : List Standing). l ++ New ∷ []) c.loop.invariant.all_new ∙
+          replicate-append-replicate c.loop.counter 1 New;
+      empty = ap (λ l. map items_of l) c.in_ok-push-2.ensures.items ∙ map-append items_of c.loop.bookings.items (c.in_ok-with_capacity.field-0 ∷ []) ∙
+          ap (λ (l : List (List Booking)). l ++ c.in_ok-with_capacity.field-0.items ∷ []) c.loop.invariant.empty ∙
+          ap (λ (i : List Booking). replicate c.loop.counter [] ++ i ∷ []) c.in_ok-with_capacity.ensures.items ∙ replicate-append-replicate c.loop.counter 1 [];
+      room = rw c.in_ok-push-2.ensures.items
+          (All-push (λ (v : Vec Booking Global). c.args.room ≤ vec_capacity v) c.loop.bookings.items c.in_ok-with_capacity.field-0 c.loop.invariant.room room);
     }
 
 pub invariant_of-result : goal.invariant_of-result
@@ -28,4 +32,7 @@ invariant_of-result c =
 pub returns : goal.returns
 returns c =
     let last : c.loop.counter ≡ CALLERS = omega arith in
-    ap (λ (l : List Standing). record { standings = l; bookings = map items_of c.loop.bookings.items; room = c.args.room }) (c.loop.invariant.all_new ∙ ap (λ n. replicate n New) last) ∙ ap (λ (l : List (List Booking)). record { standings = replicate CALLERS New; bookings = l; room = c.args.room }) (c.loop.invariant.empty ∙ ap (λ n. replicate n []) last)
+    ap (λ (l : List Standing). record { standings = l; bookings = map items_of c.loop.bookings.items; room = c.args.room }) (c.loop.invariant.all_new ∙
+    ap (λ n. replicate n New) last) ∙
+    ap (λ (l : List (List Booking)). record { standings = replicate CALLERS New; bookings = l; room = c.args.room }) (c.loop.invariant.empty ∙
+    ap (λ n. replicate n []) last)

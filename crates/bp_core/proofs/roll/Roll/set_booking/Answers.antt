@@ -11,4 +11,5 @@ returns c =
     let other : List Booking → List Booking = λ l. set l (c.args.nth - 1) c.args.booking in
     let before = bookings_read vs c.args.caller _ (omega (arith, c.self.invariant.1)) c.index_mut-bookings.ensures.value in
     let done = map-set items_of vs c.args.caller _ ∙ ap (λ w. set (map items_of vs) c.args.caller w) (ap other (sym before)) in
-    ap (λ (bs : List (List Booking)). record { standings = c.self.inside.standings.items; bookings = bs; room = c.self.inside.room }) done ∙ ap (λ (k : RollView). with_bookings k c.args.caller (other (bookings_of k c.args.caller))) c.self.view_is
+    ap (λ (bs : List (List Booking)). record { standings = c.self.inside.standings.items; bookings = bs; room = c.self.inside.room }) done ∙
+    ap (λ (k : RollView). with_bookings k c.args.caller (other (bookings_of k c.args.caller))) c.self.view_is

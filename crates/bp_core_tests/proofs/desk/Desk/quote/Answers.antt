@@ -19,7 +19,8 @@ returns-in-Some-checked_sub c =
     let within : IsSpanWithin (length p.rooms) c.args.span = (search rules, search rules) in
     let has : HasUnits p c.args.span c.in-Some.units = search rules in
     let fewer = let P : Program → Type 0 = λ q. IsCertificateOf q c.in_ok-last.last in subst P c.in_ok-fewer.ensures c.in_ok-last.ensures in
-    let tells = (c.certificates_tell_displacement.ensures p c.args.span c.in-Some.units c.in_ok-first.first c.in_ok-last.last within has c.in_ok-first.ensures fewer).1 in
+    let tells = (c.certificates_tell_displacement.ensures p c.args.span c.in-Some.units c.in_ok-first.first c.in_ok-last.last within has c.in_ok-first.ensures
+    fewer).1 in
     let difference : c.in_ok-first.first.value ≡ c.in-Some-checked_sub.displacement + c.in_ok-last.last.value = search rules in
     let same : c.in_ok-first.first.value - c.in_ok-last.last.value ≡ c.in-Some-checked_sub.displacement = omega (arith, difference) in
     let d = c.in-Some-checked_sub.displacement in

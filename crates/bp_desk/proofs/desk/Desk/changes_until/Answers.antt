@@ -10,7 +10,8 @@ use Rattle.bp_desk.proofs.desk.Desk.changes_until.Goals as goal
 
 pub invariant_of-pass : goal.invariant_of-pass
 invariant_of-pass g c =
-    pass_reads c.pass.inside.seat c.take-shared.new.seat c.give.new.seat c.take-shared.result c.pass.inside.caller c.pass.inside.next c.pass.inside.newest c.give.new.newest c.pass.invariant
+    pass_reads c.pass.inside.seat c.take-shared.new.seat c.give.new.seat c.take-shared.result c.pass.inside.caller c.pass.inside.next c.pass.inside.newest
+    c.give.new.newest c.pass.invariant
     c.take-shared.ensures c.give.ensures.seat c.give.ensures.newest
 
 pub returns-clause-items : goal.returns-clause-items
@@ -29,5 +30,6 @@ returns-clause-full g c lt =
     let seen : c.args.until ≤ length s.seen = subst (λ (q : PassState). c.args.until ≤ length q.seen) (sym c.pass.view_is) c.requires.within in
     let reached = c.changes_until-reached.ensures.reached in
     subst (λ (l : List Change). vec_capacity c.args.into.now < length l)
-    (deltas_seen s m b c.args.from (k + 1) c.args.until turn (let r = reached.0 in omega (arith, r)) (omega (arith, lt)) seen ∙ ap (λ (q : PassState). deltas_between q.house q.seen c.args.from (k + 1)) c.pass.view_is)
+    (deltas_seen s m b c.args.from (k + 1) c.args.until turn (let r = reached.0 in omega (arith, r)) (omega (arith, lt)) seen ∙
+    ap (λ (q : PassState). deltas_between q.house q.seen c.args.from (k + 1)) c.pass.view_is)
     (c.changes_until-reached.ensures.full lt)

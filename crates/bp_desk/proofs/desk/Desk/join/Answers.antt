@@ -16,5 +16,6 @@ invariant_of-pass c =
     c.facts.ensures.own_entries own (ap (λ (x : State). x.fixed) e) (ap (λ (x : State). x.number) e)
     (ap (λ (x : State). x.free) e ∙ ap (λ l. s.free ++ l) c.left.invariant.none_free ∙ append-nil s.free)
     (ap (λ (x : State). x.has_turn) e ∙ c.pass.invariant.idle.idle)
-    (newer_of s t n.seen c.pass.inside.newest c.left.inside.newest c.hear.new.self c.pass.invariant.idle c.left.invariant.idle c.join.ensures.fixed c.pass.invariant.knows c.left.invariant.knows
+    (newer_of s t n.seen c.pass.inside.newest c.left.inside.newest c.hear.new.self c.pass.invariant.idle c.left.invariant.idle c.join.ensures.fixed
+    c.pass.invariant.knows c.left.invariant.knows
     seen c.join.ensures.begins.0 c.join.ensures.begins.1 c.hear.ensures.newer c.hear.ensures.older)

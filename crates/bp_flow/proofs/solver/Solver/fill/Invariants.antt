@@ -9,7 +9,8 @@ abbrev pub invariant-loop-self : goal.invariant-loop-self
 invariant-loop-self g l = record {
   so_far : ColdSoFar l.instance l.night (priced l.self);
   falls : repairs l.self.flow.program.rooms l.instance.rooms ≤ repairs l.fn.self.flow.program.rooms l.instance.rooms;
-  counted : CountsSearches l.fn.steps l.steps l.fn.self.served l.self.served (repairs l.fn.self.flow.program.rooms l.instance.rooms - repairs l.self.flow.program.rooms l.instance.rooms);
+  counted : CountsSearches l.fn.steps l.steps l.fn.self.served l.self.served
+      (repairs l.fn.self.flow.program.rooms l.instance.rooms - repairs l.self.flow.program.rooms l.instance.rooms);
 }
 
 abbrev pub decreases-loop-self : goal.decreases-loop-self

@@ -9,4 +9,5 @@ pub returns : goal.returns
 returns c =
     let p : Priced = c.self.inside.flow in
     let P : Solving → Type 0 = λ q. IsOptimum q.flow.program c.worth.result in
-    subst P c.self.view_is (c.certificate_is_optimal.ensures p.flow.program c.worth.result p.flow.sell (prices_of p) (certified p c.worth.result p.flow.sell (prices_of p) c.self.invariant.0 c.worth.ensures refl refl))
+    subst P c.self.view_is (c.certificate_is_optimal.ensures p.flow.program c.worth.result p.flow.sell (prices_of p)
+    (certified p c.worth.result p.flow.sell (prices_of p) c.self.invariant.0 c.worth.ensures refl refl))

@@ -16,8 +16,10 @@ returns-in-Logged-clause-read g c =
     let adds = subst P c.in-Logged.is asked.asked in
     let h = c.args.self.now.book.house in
     let H = c.args.self.now.book.history in
-    read_plain c.last_line_is_legal.ensures c.one_reply.ensures c.args.self.now c.ask.new.self c.args.line.now c.in-Logged.reply c.compared.result (asked.replay c.in-Logged.reply c.in-Logged.is)
-    (adds.line ∙ ap (λ (a : Act). record { house = h; history = H ++ plain_line c.args.line.now.entry.caller a c.in-Logged.reply ∷ [] }) (sym c.requires.act)) c.compared.ensures
+    read_plain c.last_line_is_legal.ensures c.one_reply.ensures c.args.self.now c.ask.new.self c.args.line.now c.in-Logged.reply c.compared.result
+    (asked.replay c.in-Logged.reply c.in-Logged.is)
+    (adds.line ∙ ap (λ (a : Act). record { house = h; history = H ++ plain_line c.args.line.now.entry.caller a c.in-Logged.reply ∷ [] }) (sym c.requires.act))
+    c.compared.ensures
 
 pub returns-in-HistoryFull-clause-read : goal.returns-in-HistoryFull-clause-read
 returns-in-HistoryFull-clause-read g c =

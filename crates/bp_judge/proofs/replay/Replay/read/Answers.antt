@@ -5,7 +5,8 @@ use Rattle.bp_judge.proofs.Firsts.{first_caller, first_range}
 use Rattle.bp_judge.proofs.replay.Replay.read.Goals as goal
 
 pub returns-then-not-may_log-clause-read : goal.returns-then-not-may_log-clause-read
-returns-then-not-may_log-clause-read g c = first_caller c.args.self.now.book.house c.args.self.now.book.history c.args.line c.requires.legal.some_line (sym c.may_log.ensures ∙ c.if-not-may_log.true)
+returns-then-not-may_log-clause-read g c =
+    first_caller c.args.self.now.book.house c.args.self.now.book.history c.args.line c.requires.legal.some_line (sym c.may_log.ensures ∙ c.if-not-may_log.true)
 
 pub returns-then-not-is_in_range-clause-read : goal.returns-then-not-is_in_range-clause-read
 returns-then-not-is_in_range-clause-read g c =

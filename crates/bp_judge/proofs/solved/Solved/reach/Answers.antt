@@ -15,7 +15,8 @@ returns-then-moved-left-clause-caught_up g c =
     let step = c.step-moved.ensures in
     let from = c.args.self.now.course.position in
     let at = c.loop-self.self.course.position in
-    let one = moved_step h H at c.step-moved.new.self.position c.step-moved.result c.step-moved.new.self.changes.items c.loop-self.self.course.instance step.goes_on here.is.course.program step.deltas step.moved in
+    let one = moved_step h H at c.step-moved.new.self.position c.step-moved.result c.step-moved.new.self.changes.items c.loop-self.self.course.instance
+    step.goes_on here.is.course.program step.deltas step.moved in
     let both = moved_on h H from at c.step-moved.new.self.position here.from (omega (arith, step.goes_on)) here.way in
     let all = moved_grows h H from c.step-moved.new.self.position c.args.until (omega (arith, here.from, step.goes_on)) step.within in
     omega (arith, here.spent, c.if-moved-left.true, one, both, all)
@@ -41,7 +42,12 @@ loop-self-preserved g c =
     let same = ap (moved_between h H from) there in
     let own = ap (λ (p : Program). units_moved_by_all p changes) here.is.program in
     record {
-      is = record { course = subst C (sym follows.course) step.is; program = follows.program ∙ ap (λ (k : Course). k.instance) (sym follows.course); settled = follows.settled };
+      is = record {
+        course = subst C (sym follows.course) step.is;
+        program = follows.program ∙ ap (λ (k : Course). k.instance) (sym follows.course);
+        settled =
+            follows.settled;
+      };
       within = omega (arith, there, step.within);
       more = omega (arith, here.more, follows.counted.0);
       counted = omega (arith, here.counted, follows.counted.1, own, step.moved, c.if-moved-left.false);

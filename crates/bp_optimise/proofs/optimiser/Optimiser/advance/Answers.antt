@@ -12,4 +12,5 @@ returns-clause-counted g c =
     let long = c.lag-lag.ensures.length in
     let w = c.requires.goes.within in
     let le = prefix_le c.args.pass.now.seen first.seen c.lag-lag.ensures.read.begins in
-    counts_later first.house new.house first.seen new.seen c.args.steps.now c.advance_to.new.steps c.args.self.now c.advance_to.new.self l.house l.begins (omega (arith, at, long, w, le)) (omega (arith, at, long)) c.advance_to.ensures.counted
+    counts_later first.house new.house first.seen new.seen c.args.steps.now c.advance_to.new.steps c.args.self.now c.advance_to.new.self l.house l.begins
+    (omega (arith, at, long, w, le)) (omega (arith, at, long)) c.advance_to.ensures.counted

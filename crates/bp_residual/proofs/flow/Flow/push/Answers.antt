@@ -15,4 +15,5 @@ loop-hop-preserved c =
     let i = c.loop-hop.hop-index in
     let d : Hop = record { arc = 0; forward = false } in
     let in_range : i < length c.args.path.now = omega arith in
-    left_after _ _ _ _ _ _ _ _ _ c.push_hop.ensures.flow c.push_hop.ensures.potentials (rooms_left_at _ _ c.args.path.now i d _ _ _ in_range c.loop-hop.invariant)
+    left_after _ _ _ _ _ _ _ _ _ c.push_hop.ensures.flow c.push_hop.ensures.potentials
+    (rooms_left_at _ _ c.args.path.now i d _ _ _ in_range c.loop-hop.invariant)

@@ -4,4 +4,5 @@ use Rattle.bp_residual.proofs.PushLoop.{LeftToPush}
 use Rattle.bp_residual.proofs.flow.Flow.push.Given as goal
 
 abbrev pub invariant-loop-hop : goal.invariant-loop-hop
-invariant-loop-hop l = LeftToPush (pushed_along l.fn.self.flow (steps_of l.fn.self.flow.program l.path) l.units) l.self.flow (drop l.hop-index l.path) l.units l.self.potentials l.fn.self.potentials
+invariant-loop-hop l = LeftToPush (pushed_along l.fn.self.flow (steps_of l.fn.self.flow.program l.path) l.units) l.self.flow (drop l.hop-index l.path)
+    l.units l.self.potentials l.fn.self.potentials

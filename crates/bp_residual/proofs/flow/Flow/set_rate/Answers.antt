@@ -7,7 +7,8 @@ use Rattle.bp_residual.proofs.flow.Flow.set_rate.Goals as goal
 
 pub invariant_of-self : goal.invariant_of-self
 invariant_of-self c =
-    let in_range : c.args.stay < length c.self.inside.instance.stays = omega (arith, c.requires.stay, ap (λ (p : Priced). length p.flow.program.stays) c.self.view_is) in (
+    let in_range : c.args.stay < length c.self.inside.instance.stays =
+    omega (arith, c.requires.stay, ap (λ (p : Priced). length p.flow.program.stays) c.self.view_is) in (
       rate_keeps_priced _ _ c.args.stay c.args.rate c.self.invariant.0 c.apply.ensures.limits in_range c.apply.ensures.changed,
       ends_after _ _ _ (Rate c.args.stay c.args.rate) c.apply.ensures.changed c.self.invariant.1,
     )

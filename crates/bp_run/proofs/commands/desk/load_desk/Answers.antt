@@ -10,18 +10,21 @@ pub returns-in_err-open : goal.returns-in_err-open
 returns-in_err-open g c =
     let p = err_from_is_err_and c.from_residual.result c.from_residual.ensures.1 in
     rw (p.1, p.2)
-    (follows_first _ (hotel_plan (named c.args.hotel.now)) (λ (inn : OpenHotel). script_plan c.args.script.now inn) c.args.first (c.args.first + 4) (c.args.first + 5) _ c.in_err-open.ensures)
+    (follows_first _ (hotel_plan (named c.args.hotel.now)) (λ (inn : OpenHotel). script_plan c.args.script.now inn) c.args.first (c.args.first + 4)
+    (c.args.first + 5) _ c.in_err-open.ensures)
 
 pub returns-in_err-scripts : goal.returns-in_err-scripts
 returns-in_err-scripts g c =
     let p = err_from_is_err_and c.from_residual-in_err-scripts.result c.from_residual-in_err-scripts.ensures.1 in
     rw (p.1, p.2)
-    (follows_both _ _ _ (hotel_plan (named c.args.hotel.now)) (λ (inn : OpenHotel). script_plan c.args.script.now inn) c.args.first (c.args.first + 4) (c.args.first + 5) _ _ c.in_ok-open.ensures
+    (follows_both _ _ _ (hotel_plan (named c.args.hotel.now)) (λ (inn : OpenHotel). script_plan c.args.script.now inn) c.args.first (c.args.first + 4)
+    (c.args.first + 5) _ _ c.in_ok-open.ensures
     (follows_stop _ _ _ _ _ _ c.in_err-scripts.ensures.follows))
 
 pub returns : goal.returns
 returns g c =
     rw (c.new.ensures, c.into_vec.ensures)
-    (follows_both _ _ _ (hotel_plan (named c.args.hotel.now)) (λ (inn : OpenHotel). script_plan c.args.script.now inn) c.args.first (c.args.first + 4) (c.args.first + 5) _ _ c.in_ok-open.ensures
+    (follows_both _ _ _ (hotel_plan (named c.args.hotel.now)) (λ (inn : OpenHotel). script_plan c.args.script.now inn) c.args.first (c.args.first + 4)
+    (c.args.first + 5) _ _ c.in_ok-open.ensures
     (follows_stage _ _ _ _ _ _ _ _ refl c.in_ok-scripts.ensures.follows
     (follows_made _ _ _ _ _ refl (omega arith) (leaves_same _))))

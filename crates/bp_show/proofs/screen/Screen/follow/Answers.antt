@@ -14,7 +14,8 @@ returns-then-newest-last-clause-shown g c =
     (omega (arith, last, le, c.quote-newest.ensures.number), last, refl)
 
 pub show-requires-clause-nights : goal.show-requires-clause-nights
-show-requires-clause-nights g c = ap (λ (v : Vector). length v.prices) c.of_pass.ensures ∙ newest_nights _ _ c.facts.ensures.legal ∙ c.requires ∙ sym (ap (λ (d : Display). d.nights) c.self.view_is)
+show-requires-clause-nights g c = ap (λ (v : Vector). length v.prices) c.of_pass.ensures ∙ newest_nights _ _ c.facts.ensures.legal ∙ c.requires ∙
+    sym (ap (λ (d : Display). d.nights) c.self.view_is)
 
 pub show-requires-clause-newer : goal.show-requires-clause-newer
 show-requires-clause-newer g c =
@@ -32,10 +33,12 @@ returns-clause-shown g c =
     let gt = c.if-newest-last.false in (
       omega (arith, last, gt, c.quote-newest.ensures.number),
       c.quote-newest.ensures.number,
-      c.in_ok-show.ensures.shown ∙ ap (λ (v : Vector). c.self.inside.stage.seen ++ v ∷ []) c.of_pass.ensures ∙ ap (λ (d : Display). d.seen ++ newest_of c.args.pass.now.seen ∷ []) c.self.view_is,
+      c.in_ok-show.ensures.shown ∙ ap (λ (v : Vector). c.self.inside.stage.seen ++ v ∷ []) c.of_pass.ensures ∙
+          ap (λ (d : Display). d.seen ++ newest_of c.args.pass.now.seen ∷ []) c.self.view_is,
     )
 
 pub returns-clause-kept : goal.returns-clause-kept
 returns-clause-kept g c = λ are.
     vectors_more c.args.pass.now.seen c.args.self.now.seen _ (newest_of c.args.pass.now.seen) (newest_is_there _ _ c.facts.ensures.legal)
-    (c.in_ok-show.ensures.shown ∙ ap (λ (v : Vector). c.self.inside.stage.seen ++ v ∷ []) c.of_pass.ensures ∙ ap (λ (d : Display). d.seen ++ newest_of c.args.pass.now.seen ∷ []) c.self.view_is) are
+    (c.in_ok-show.ensures.shown ∙ ap (λ (v : Vector). c.self.inside.stage.seen ++ v ∷ []) c.of_pass.ensures ∙
+    ap (λ (d : Display). d.seen ++ newest_of c.args.pass.now.seen ∷ []) c.self.view_is) are

@@ -10,5 +10,6 @@ loop-index-preserved c =
       c.in_ok-view.ensures.stage ∙ c.loop-index.invariant.0,
       search rules,
       subst (λ (l : List Display). All (λ (v : Display). v ≡ c.args.self.now) l) (sym items)
-          (All-push (λ (v : Display). v ≡ c.args.self.now) c.loop-index.made.items c.in_ok-view.field-0 c.loop-index.invariant.2 (c.in_ok-view.ensures.view ∙ c.loop-index.invariant.0)),
+          (All-push (λ (v : Display). v ≡ c.args.self.now) c.loop-index.made.items c.in_ok-view.field-0 c.loop-index.invariant.2 (c.in_ok-view.ensures.view ∙
+          c.loop-index.invariant.0)),
     )

@@ -10,4 +10,5 @@ pub invariant_of-result : goal.invariant_of-result
 invariant_of-result c = fall_to _ _ _ (c.requires.nights ∙ sym (newest_nights _ _ c.facts.ensures.legal)) c.requires.most c.sum_pass.ensures
 
 pub returns : goal.returns
-returns c = same_vector _ _ _ _ _ _ c.quote-quote.ensures.number c.quote-quote.ensures.position (falls_are _ _ _ (c.requires.nights ∙ sym (newest_nights _ _ c.facts.ensures.legal)) c.sum_pass.ensures)
+returns c = same_vector _ _ _ _ _ _ c.quote-quote.ensures.number c.quote-quote.ensures.position
+    (falls_are _ _ _ (c.requires.nights ∙ sym (newest_nights _ _ c.facts.ensures.legal)) c.sum_pass.ensures)

@@ -16,4 +16,5 @@ returns-then-showed-stamp-clause-nights c =
     let begins : IsPrefix c.self.inside.place.me.0.seen c.load-showed.new.seat.me.0.seen = search rules in
     let rises : Rises c.load-showed.new.seat.me.0.seen = search rules in
     let ends : EndsIn c.load-showed.new.seat.me.0.seen c.in-Some.found.vector = search rules in
-    same_nights _ _ c.self.inside.last c.in-Some.found.vector c.self.invariant.1 rises begins c.self.invariant.0 ends ∙ ap (λ (d : Display). d.nights) c.self.view_is
+    same_nights _ _ c.self.inside.last c.in-Some.found.vector c.self.invariant.1 rises begins c.self.invariant.0 ends ∙
+    ap (λ (d : Display). d.nights) c.self.view_is

@@ -13,5 +13,6 @@ loop-place-preserved c =
     let below : c.loop-place.place < length c.args.text.now = rw (← c.as_bytes-bytes.ensures.value) c.loop-place-test.true in
     record {
       rest = c.loop-place.invariant.rest ∙ front_more c.args.text.now c.loop-place.place below here;
-      text = IsUtf8-drop c.args.text.now (c.loop-place.place + 1) c.utf8.text (IsCharBoundary-after_ascii c.args.text.now c.loop-place.place c.utf8.text below (omega (arith, here)));
+      text = IsUtf8-drop c.args.text.now (c.loop-place.place + 1) c.utf8.text
+          (IsCharBoundary-after_ascii c.args.text.now c.loop-place.place c.utf8.text below (omega (arith, here)));
     }

@@ -25,7 +25,8 @@ loop-rest-preserved g c =
     let front : List ℕ = c.split_at.result.0.now in
     record {
       taken = so_far.taken ++ front;
-      splits = taken_more _ c.args.bytes.now so_far.taken c.loop-rest.rest.now front c.split_at.result.1.now so_far.splits c.split_at.ensures.front c.split_at.ensures.back;
+      splits = taken_more _ c.args.bytes.now so_far.taken c.loop-rest.rest.now front c.split_at.result.1.now so_far.splits c.split_at.ensures.front
+          c.split_at.ensures.back;
       drafted = piece_out c.args.self.now c.loop-rest.self so_far.taken front c.extend_from_slice.new.self.items c.self.inside.bytes.items c.hand_on.new.self
           c.in_ok-extend_from_slice.ensures.items c.self.view_is c.in_ok-hand_on.ensures.empty so_far.drafted c.in_ok-hand_on.ensures.writes;
       steady = λ s. c.in_ok-hand_on.ensures.steady (so_far.steady s);
@@ -36,4 +37,5 @@ loop-rest-preserved g c =
 pub returns-in_err-extend_from_slice-2-clause-writes : goal.returns-in_err-extend_from_slice-2-clause-writes
 returns-in_err-extend_from_slice-2-clause-writes g c =
     let so_far = c.loop-rest.invariant in
-    rest_stopped _ _ _ _ c.loop-rest.self so_far.taken c.loop-rest.rest.now c.args.bytes.now _ so_far.splits so_far.drafted c.from_residual-in_err-extend_from_slice-2.ensures.0
+    rest_stopped _ _ _ _ c.loop-rest.self so_far.taken c.loop-rest.rest.now c.args.bytes.now _ so_far.splits so_far.drafted
+    c.from_residual-in_err-extend_from_slice-2.ensures.0

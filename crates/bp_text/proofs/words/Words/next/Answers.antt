@@ -26,4 +26,6 @@ returns c =
     sym c.self.view_is ∙ cond-false c.self.inside.done [] (split text) c.if-self.false
     ∙ split_at_space text n within c.length_to.ensures.none (c.length_to.ensures.stop within)
     ∙ ap (λ (w : Word). w ∷ split (drop (n + 1) text)) (sym c.split_at.ensures.front)
-    ∙ ap (λ (ws : List Word). c.split_at.result.0.now ∷ ws) (ap split (sym (take_rest c.split_at.result.1.now 1 ∙ ap (drop 1) c.split_at.ensures.back ∙ drop-drop 1 n text)) ∙ sym (cond-false c.self.inside.done [] _ c.if-self.false))
+    ∙ ap (λ (ws : List Word). c.split_at.result.0.now ∷ ws)
+    (ap split (sym (take_rest c.split_at.result.1.now 1 ∙ ap (drop 1) c.split_at.ensures.back ∙ drop-drop 1 n text)) ∙
+    sym (cond-false c.self.inside.done [] _ c.if-self.false))

@@ -4,7 +4,7 @@ use Rattle.bp_turn.proofs.Draws.{draws}
 use Rattle.bp_turn.proofs.turn.Turn.take.Goals as goal
 
 pub fetch_add-ticket-requires : goal.fetch_add-ticket-requires
-fetch_add-ticket-requires g c = (search rules, search rules, draws _ _ _ _ _ _ _ c.seat.invariant.sound.below_64 (search rules))
+fetch_add-ticket-requires g c = (search rules, search rules, draws _ _ _ _ _ _ _ c.seat.invariant.sound.numbered (search rules))
 
 -- the slot that was taken last is the value's
 pub exchange-requires : goal.exchange-requires

@@ -11,7 +11,8 @@ loop-gone-init c = record {
   size = omega arith;
   small = omega arith;
   sum = sym (price_from-past c.args.prices.now (length c.args.prices.now - 0) (omega arith));
-  made = λ n past within. let in_range : n < MOST_NODES = omega arith in get_or-replicate MOST_NODES n 0 0 in_range ∙ sym (price_from-past c.args.prices.now n (omega arith));
+  made = λ n past within. let in_range : n < MOST_NODES = omega arith in
+      get_or-replicate MOST_NODES n 0 0 in_range ∙ sym (price_from-past c.args.prices.now n (omega arith));
 }
 
 pub loop-gone-preserved : goal.loop-gone-preserved
@@ -22,5 +23,6 @@ loop-gone-preserved c =
       size = length-set _ _ _ ∙ c.loop-gone.invariant.size;
       small = omega (arith, c.loop-gone.invariant.small, c.type_inv.prices (length c.args.prices.now - 1 - c.loop-gone.gone));
       sum = sum;
-      made = one_more_made c.args.prices.now c.loop-gone.sums c.loop-gone.gone _ (omega arith) (omega (arith, c.loop-gone.invariant.size)) sum c.loop-gone.invariant.made;
+      made = one_more_made c.args.prices.now c.loop-gone.sums c.loop-gone.gone _ (omega arith) (omega (arith, c.loop-gone.invariant.size))
+          sum c.loop-gone.invariant.made;
     }

@@ -1,0 +1,9 @@
+use Rattle.bp_c.proofs.Held.{scenarios_there}
+use Rattle.bp_c.proofs.Lines.{scenarios_asked}
+use Rattle.bp_c.proofs.texts.bidprice_scenarios.Goals as goal
+
+pub reply_to_two-requires-clause-there : goal.reply_to_two-requires-clause-there
+reply_to_two-requires-clause-there c = scenarios_there _ _ _ _ c.new.ensures c.new-2.ensures
+
+pub returns : goal.returns
+returns c = c.reply_to_two.ensures _ (scenarios_asked _ _ c.new.ensures c.new-2.ensures)

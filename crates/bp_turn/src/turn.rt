@@ -20,6 +20,9 @@ use std::sync::Wait;
 // How often a thread sleeps before it draws its ticket.
 const PATIENCE: u32 = 16;
 
+// How often a thread with a ticket looks for its turn before it sleeps: about as long as a turn takes.
+const LOOKS: u32 = 200;
+
 /// There was no memory.
 #[derive(Clone, Copy, PartialEq, Eq, Debug)]
 pub struct Memory;
@@ -91,6 +94,7 @@ impl<B: Story> Turn<B> {
             .table
             .shared
             .fetch_add::<Draw>(&mut seat.place, TICKET, 1);
+        self.look_out(ticket);
         self.wait(rt, &mut seat.place, ticket);
         match self.table.shared.exchange(&mut seat.place, 0, None) {
             Some(value) => value,
@@ -193,6 +197,16 @@ impl<B: Story> Turn<B> {
     fn is_free(&self) -> bool {
         let serving = self.table.shared.peek(SERVING);
         serving == self.table.shared.peek(TICKET)
+    }
+
+    // Looks a while whether the ticket is served. Only two that drew their tickets at one moment meet here, and none that
+    // comes later can pass the second: to sleep and be woken would cost all of them more than a turn.
+    fn look_out(&self, ticket: u64) {
+        for _ in 0..LOOKS {
+            if self.table.shared.peek(SERVING) == ticket {
+                return;
+            }
+        }
     }
 
     // Sleeps until the ticket is served, and has the slot with the value then.

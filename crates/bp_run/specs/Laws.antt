@@ -4,7 +4,7 @@ use Rattle.std.specs.FinMap.{get}
 use Rattle.bp_edges.specs.Held.{Files}
 use Rattle.bp_desk_run.specs.declared.callers.Ran.{Ran}
 use Rattle.bp_cli.specs.Words.{Word}
-use Rattle.bp_run.specs.HotelPlan.{HotelNames}
+use Rattle.bp_inputs.specs.HotelPlan.{HotelNames}
 use Rattle.bp_run.specs.Command.{IsAnswered}
 use Rattle.bp_run.specs.Desk.{desk_command, run_said}
 use Rattle.bp_run.specs.Judge.{ruling_command, replay_plan}

@@ -128,8 +128,7 @@ fn all_run<R: Wait + Threads + Sync, G: Gate>(
 }
 
 /// Reads a list and the files of all its hotels in order, and then runs their desks beside one another, each with so
-/// many
-/// optimisers.
+/// many optimisers.
 pub fn answer<R: Wait + Threads + Sync, S: Shelf, G: Gate>(
     rt: &R,
     alloc: Global,

@@ -3,7 +3,7 @@
 
     bench/planted.py [CRATE..]
 
-It wants rt and Python's standard library. The gate tries about ten planted bugs a crate, those of its folder must-fail,
+It wants rt and Python's standard library. The gate tries five to ten planted bugs a crate, those of its folder must-fail,
 which tell most; more stand in its folder planted, in the same form. This script copies the repository into out/planted,
 with these in the place of the others, and runs `rt must-fail` on each crate that has some, or on those that are named:
 up to a minute for each bug. Ends with status 1 where one is not refused.

@@ -17,9 +17,9 @@ work="$(mktemp -d)"
 trap 'rm -rf "$work"' EXIT
 
 . "$here/crates.sh"
-copy_crates "$work" bp_types bp_edges bp_text bp_cert bp_ledger bp_board bp_core
+copy_crates "$work" bp_types bp_edges bp_text bp_cert bp_ledger bp_board bp_fixtures bp_core
 mkdir -p "$work/crates/desk_bench/src"
-echo 'desk_bench: bp_types bp_edges bp_cert bp_board bp_core' >> "$work/crates.txt"
+echo 'desk_bench: bp_types bp_edges bp_board bp_fixtures bp_core' >> "$work/crates.txt"
 cp "$top/crates/bp_core_tests/src/desk.rt" "$work/crates/desk_bench/src/"
 cp -r "$top/crates/bp_core_tests/specs" "$top/crates/bp_core_tests/proofs" "$work/crates/desk_bench/"
 rm -rf "$work/crates/desk_bench/proofs/tests"

@@ -21,11 +21,11 @@ work="$(mktemp -d)"
 trap 'rm -rf "$work"' EXIT
 
 . "$here/crates.sh"
-copy_crates "$work" bp_types bp_edges bp_text bp_cert bp_ledger bp_board bp_core bp_turn bp_desk
+copy_crates "$work" bp_types bp_edges bp_text bp_cert bp_ledger bp_board bp_fixtures bp_core bp_turn bp_desk
 crate="$work/crates/desk_bench"
 tests="$top/crates/bp_desk_tests"
 mkdir -p "$crate/src" "$crate/proofs/hire" "$crate/proofs/work"
-echo 'desk_bench: bp_types bp_cert bp_board bp_core bp_turn bp_desk atomic_table' >> "$work/crates.txt"
+echo 'desk_bench: bp_types bp_cert bp_board bp_fixtures bp_core bp_turn bp_desk atomic_table' >> "$work/crates.txt"
 cp "$tests/src/day.rt" "$tests/src/hotel.rt" "$tests/src/calling.rt" "$crate/src/"
 cp -r "$tests/specs" "$tests/proofs/Keeping.antt" "$crate/"
 mv "$crate/Keeping.antt" "$crate/proofs/"
@@ -47,10 +47,11 @@ mod hotel;
 
 use bp_core::Book;
 use bp_desk::{BookReply, Desk, Pass};
-use bp_types::{House, Limits, Memory, Span, Stay};
+use bp_fixtures::{Numbers, certificate, house};
+use bp_types::{Limits, Memory, Span, Stay};
 use calling::next;
 use day::opening_board;
-use hotel::{Hotel, Numbers, certificate, open};
+use hotel::{Hotel, open};
 use std::alloc::Global;
 use std::env;
 use std::sync::Wait;
@@ -190,12 +191,9 @@ fn value(stays: &[Stay]) -> u128 {
 
 // Opens a book alone.
 fn open_book(alloc: Global, numbers: Numbers<'_>, limits: Limits) -> Result<(), Fail> {
-    let rooms = Vec::from_slice(alloc, numbers.0)?;
-    let sold = Vec::from_slice(alloc, numbers.1)?;
-    let stays = Vec::from_slice(alloc, numbers.2)?;
-    let house = House::new(rooms, sold, stays, limits)?;
+    let house = house(alloc, numbers.rooms, numbers.sold, numbers.stays, limits)?;
     let start = house.instance(alloc)?;
-    let board = opening_board(alloc, &start, certificate(alloc, numbers.3)?)?;
+    let board = opening_board(alloc, &start, certificate(alloc, numbers.opening)?)?;
     let _book = Book::new(alloc, house, board)?;
     Ok(())
 }
@@ -238,7 +236,12 @@ fn main(rt: HostRuntime) -> Result<(), Fail> {
     let none = vec![in alloc; 0; NIGHTS as usize]?;
     let sell = vec![in alloc; FORECAST; STAYS as usize]?;
     let stays = stays(alloc)?;
-    let numbers: Numbers<'_> = (&rooms, &none, &stays, (value(&stays), &sell, &none));
+    let numbers = Numbers {
+        rooms: &rooms,
+        sold: &none,
+        stays: &stays,
+        opening: (value(&stays), &sell, &none),
+    };
     let mut time: u128 = 0;
     let mut accepted: u64 = 0;
     for _ in 0..desks {

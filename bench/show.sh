@@ -19,10 +19,10 @@ work="$(mktemp -d)"
 trap 'rm -rf "$work"' EXIT
 
 . "$here/crates.sh"
-copy_crates "$work" bp_types bp_edges bp_text bp_cert bp_turn bp_ledger bp_board bp_core bp_desk bp_show
+copy_crates "$work" bp_types bp_edges bp_text bp_cert bp_turn bp_ledger bp_board bp_fixtures bp_core bp_desk bp_show
 mkdir -p "$work/crates/show_bench/src"
-echo 'show_bench: bp_types bp_cert bp_board bp_core bp_desk bp_show atomic_table' >> "$work/crates.txt"
-cp "$top/crates/bp_show_tests/src/hotel.rt" "$top/crates/bp_show_tests/src/lobby.rt" "$work/crates/show_bench/src/"
+echo 'show_bench: bp_types bp_board bp_fixtures bp_core bp_desk bp_show atomic_table' >> "$work/crates.txt"
+cp "$top/crates/bp_show_tests/src/lobby.rt" "$work/crates/show_bench/src/"
 cp -r "$top/crates/bp_show_tests/specs" "$top/crates/bp_show_tests/proofs" "$work/crates/show_bench/"
 rm -rf "$work/crates/show_bench/proofs/tests" "$work/crates/show_bench/proofs/evening"
 grep -rl bp_show_tests "$work/crates/show_bench" | xargs sed -i 's/bp_show_tests/show_bench/g'
@@ -31,9 +31,9 @@ cat > "$work/crates/show_bench/src/main.rt" <<'END'
 // How fast views look while their screen follows: show_bench THREADS MILLISECONDS VECTORS
 #![tactic(auto)]
 
-mod hotel;
 mod lobby;
 
+use bp_fixtures::Numbers;
 use bp_show::{Follow, Look, View};
 use bp_types::{Command, Span, Stay};
 use lobby::Lobby;
@@ -133,7 +133,12 @@ fn main(rt: HostRuntime) -> Result<(), Fail> {
     let (mut lobby, mut views) = Lobby::open(
         &rt,
         rt.alloc(),
-        (&rooms, &none, &stays, (1, &[1], &prices)),
+        Numbers {
+            rooms: &rooms,
+            sold: &none,
+            stays: &stays,
+            opening: (1, &[1], &prices),
+        },
         threads,
     )?;
     let mut viewers = Vec::new(rt.alloc());

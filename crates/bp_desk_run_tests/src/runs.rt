@@ -1,4 +1,4 @@
-//! The hotel of the tests, sessions that book on it, and a run of them.
+//! Sessions that book at the hotel of three nights, and a run of them.
 
 ghost use Rattle.std.specs.Prelude.{◌≡◌, ◌≤◌, length, All, IfOk};
 ghost use Rattle.bp_optimise.specs.Sessions.{AreInRange};
@@ -6,41 +6,13 @@ ghost use Rattle.bp_optimise.specs.Sessions.{AreInRange};
 use bp_core::{Act, is_in_range};
 use bp_desk_run::{Ran, run_desk};
 use bp_edges::NoGate;
+use bp_fixtures::three_nights as house;
 use bp_script::Commands;
-use bp_types::{Command, House, Limits, Span, Stay};
+use bp_types::{Command, House, Limits};
 use std::alloc::Global;
 use std::sync::Wait;
 use std::test::Fail;
 use std::thread::Threads;
-
-/// Three nights, of which the second has one room alone, and four stays.
-pub fn house(alloc: Global, limits: Limits) -> Result<House, Fail> {
-    let mut stays = Vec::new(alloc);
-    stays.push(stay(0, 2, 100, 3))?;
-    stays.push(stay(1, 3, 150, 1))?;
-    stays.push(stay(0, 1, 60, 1))?;
-    stays.push(stay(2, 3, 40, 5))?;
-    let mut rooms = Vec::new(alloc);
-    rooms.push(2)?;
-    rooms.push(1)?;
-    rooms.push(2)?;
-    let mut sold = Vec::new(alloc);
-    sold.push(0)?;
-    sold.push(0)?;
-    sold.push(0)?;
-    match House::new(rooms, sold, stays, limits) {
-        Ok(house) => Ok(house),
-        Err(error) => Err(Fail::new(error)),
-    }
-}
-
-fn stay(from: u32, to: u32, rate: u64, forecast: u64) -> Stay {
-    Stay {
-        span: Span { from, to },
-        rate,
-        forecast,
-    }
-}
 
 /// Runs sessions that book these stays beside so many workers.
 pub fn run<R: Threads + Wait + Sync>(

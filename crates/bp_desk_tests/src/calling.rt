@@ -3,9 +3,10 @@ ghost use Rattle.std.specs.Prelude.{◌≡◌, IfOk};
 ghost use Rattle.bp_desk_tests.specs.Passing.{IsPassOf};
 
 use crate::day;
-use crate::hotel::{Claimed, Hotel, certificate};
+use crate::hotel::Hotel;
 use bp_core::{Act, Answer, is_in_range};
 use bp_desk::{Desk, Pass, Quote, SubmitError};
+use bp_fixtures::{Claimed, certificate};
 use bp_types::{Command, Span};
 use std::alloc::Global;
 use std::process::Abort;

@@ -1,10 +1,10 @@
 //! A day at the Lindenhof.
 
 use crate::day::a_day;
-use crate::hotel::{Claimed, certificate};
 use bp_core::Act::{self, Do, Enrol, Leave, Publish};
 use bp_core::Entry;
 use bp_core::Reply::{self, Accepted, Cancelled, Done, Vector};
+use bp_fixtures::{Claimed, certificate};
 use bp_hotelfile::read_hotel;
 use bp_stayfile::{read_bookings, read_forecast, read_stays};
 use bp_types::Command::{Book, Cancel};

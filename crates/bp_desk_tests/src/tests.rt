@@ -3,7 +3,7 @@ ghost use Rattle.std.specs.Prelude.{◌≡◌};
 ghost use Rattle.bp_desk_tests.specs.Passing.{IsPassOf};
 
 use crate::calling::{Offer, Row, end, next, offer_all, price, refresh, run, submit};
-use crate::hotel::{Claimed, Hotel, LIMITS, N12, OPENING, THREE_NIGHTS, open};
+use crate::hotel::{Hotel, open};
 use crate::quoting::{group, quote};
 use bp_cert::Verdict;
 use bp_core::Answer::{Behind, Logged, Unquoted};
@@ -11,6 +11,7 @@ use bp_core::Reply::{
     Accepted, AlreadyCancelled, BelowSold, Cancelled, Done, GroupNoRoom, NoRoom, NotBooked, TooLow,
 };
 use bp_desk::{Desk, EnrolError, GroupReply, GroupStop, Lag, Pass, Quote, SubmitError};
+use bp_fixtures::{AFTER_ONE, LIMITS, N12, OPENING, THREE_NIGHTS, WITHOUT_ONE_EACH};
 use bp_types::Command::{Book, Cancel, Group, Reforecast, Reprice, Resize};
 use bp_types::{Command, Limits, Span};
 use std::alloc::Global;
@@ -63,8 +64,6 @@ fn an_older_board(rt: HostRuntime) -> Result<(), Fail> {
     offer_all(&rt, alloc, &desk, &hotel, &mut opener, &OLDER)?;
     Ok(())
 }
-
-const AFTER_ONE: Claimed<'static> = (140, &[0, 0, 1, 2], &[0, 120, 40]);
 
 const OFFERS: [Offer<'static>; 5] = [
     (4, OPENING, Err(SubmitError::Position { length: 3 })),
@@ -232,8 +231,6 @@ const AFTER_STALE: [Row; 2] = [
         },
     ),
 ];
-
-const WITHOUT_ONE_EACH: Claimed<'static> = (100, &[0, 0, 1, 1], &[0, 110, 40]);
 
 /// Asks for a group without a quote, and with one that was right before a booking.
 fn unquoted_and_stale<R: Wait + Abort>(

@@ -3,10 +3,11 @@ ghost use Rattle.std.specs.Prelude.{◌≡◌, ◌<◌, All, IfOk};
 ghost use Rattle.bp_desk_tests.specs.Passing.{IsPassOf};
 
 use crate::calling::{ask, next};
-use crate::hotel::{Hotel, LIMITS, ONE_ROOM, THREE_NIGHTS, open};
+use crate::hotel::{Hotel, open};
 use bp_core::{Act, Answer, Book, Reply};
 use bp_desk::{Desk, Pass};
 use bp_edges::MemorySink;
+use bp_fixtures::{LIMITS, ONE_ROOM, THREE_NIGHTS};
 use bp_journal::{read, write};
 use bp_judge::{Judgement, judge};
 use bp_types::{Command, House, Limits, Steps};

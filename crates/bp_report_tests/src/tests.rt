@@ -4,6 +4,7 @@ ghost use Rattle.bp_core.specs.Lines.{published_position};
 
 use bp_core::{Act, Book, Entry, Line, Reply};
 use bp_edges::MemorySink;
+use bp_fixtures::{Claimed, certificate};
 use bp_hotelfile::{Hotel, read_hotel};
 use bp_journal::Journal;
 use bp_judge::{Judgement, judge};
@@ -14,9 +15,6 @@ use std::alloc::Global;
 use std::marker::Brand;
 use std::sync::ledger::{Blank, Ledger};
 use std::test::Fail;
-
-/// Value, sell numbers and prices of a certificate.
-type Claimed<'a> = (u128, &'a [u64], &'a [u64]);
 
 /// A caller, what it does, what is answered, and the certificate of a vector.
 type Row<'a> = (u32, Act, Reply, Option<Claimed<'a>>);
@@ -54,11 +52,7 @@ fn journal_of(alloc: Global, rows: &[Row<'_>]) -> Result<Journal, Fail> {
             reply: row.2,
         };
         let certificate = match row.3 {
-            Some(claimed) => Some(Certificate {
-                value: claimed.0,
-                sell: Vec::from_slice(alloc, claimed.1)?,
-                prices: Vec::from_slice(alloc, claimed.2)?,
-            }),
+            Some(claimed) => Some(certificate(alloc, claimed)?),
             None => None,
         };
         if !may_stand(&entry, &certificate) {

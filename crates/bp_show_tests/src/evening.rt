@@ -7,10 +7,10 @@ ghost use Rattle.bp_types.specs.House.{opening};
 ghost use Rattle.bp_core.specs.declared.line.Act.TheVariants.{Do};
 ghost use Rattle.bp_core.specs.Legal.{is_in_range};
 
-use crate::hotel::opening_board;
 use bp_board::Board;
 use bp_core::{Act, is_in_range};
 use bp_desk::{Desk, Pass};
+use bp_fixtures::opening_board;
 use bp_show::{Follow, Look, Screen, View};
 use bp_types::{Certificate, Command, House, Instance, Span};
 use std::alloc::Global;

@@ -4,8 +4,6 @@
 #[cfg(test)]
 mod evening;
 #[cfg(test)]
-mod hotel;
-#[cfg(test)]
 mod lobby;
 #[cfg(test)]
 mod tests;

@@ -1,15 +1,23 @@
 ghost use Rattle.std.specs.Prelude.{◌≡◌, ◌≤◌, length, All, IfOk};
 ghost use Rattle.bp_types.specs.declared.limits.TheConstants.{MOST_VIEWS};
 
-use crate::hotel::{Claimed, LIMITS, Numbers, certificate, house, opening_board};
 use bp_core::{Act, Answer, is_in_range};
 use bp_desk::{Desk, Pass, SubmitError};
+use bp_fixtures::{Claimed, Numbers, certificate, house, opening_board};
 use bp_show::{Follow, Screen, View};
-use bp_types::{Command, House, Instance, Memory};
+use bp_types::{Command, House, Instance, Limits, Memory};
 use std::alloc::Global;
 use std::marker::Model;
 use std::sync::Wait;
 use std::test::Fail;
+
+/// Room for the vectors of all looks.
+pub(crate) const LIMITS: Limits = Limits {
+    stale_after: 10,
+    entries: 2000,
+    publications: 1000,
+    unit: 1,
+};
 
 /// A desk, the pass of a session there, and a screen that follows the pass. Contracts see the screen.
 #[derive(Drop)]
@@ -44,10 +52,10 @@ impl<'a, R: Wait> Lobby<'a, R> {
         requires { (1 ≤ views) × (views ≤ MOST_VIEWS) }
         ensures { IfOk result (λ r. (length r.1.items ≡ views) × All (λ v. v ≡ r.0) r.1.items) }
     {
-        let of_desk = house(alloc, numbers, LIMITS)?;
-        let house = house(alloc, numbers, LIMITS)?;
+        let of_desk = house(alloc, numbers.rooms, numbers.sold, numbers.stays, LIMITS)?;
+        let house = house(alloc, numbers.rooms, numbers.sold, numbers.stays, LIMITS)?;
         let start = house.instance(alloc)?;
-        let board = opening_board(alloc, &start, certificate(alloc, numbers.3)?)?;
+        let board = opening_board(alloc, &start, certificate(alloc, numbers.opening)?)?;
         let (screen, views) = Screen::new(rt, alloc, 0, &board, views)?;
         let (desk, mut opener) = Desk::new(alloc, of_desk, board)?;
         let Ok(pass) = desk.enrol(rt, alloc, &mut opener) else {

@@ -1,16 +1,12 @@
 ghost use Rattle.std.specs.Prelude.{◌≡◌};
 
 use crate::evening::evening;
-use crate::hotel::{LIMITS, ONE_ROOM, THREE_NIGHTS, certificate, house};
-use crate::lobby::Lobby;
+use crate::lobby::{LIMITS, Lobby};
+use bp_fixtures::{AFTER_ONE, N0, N12, ONE_ROOM, OPENING, THREE_NIGHTS, certificate, three_nights};
 use bp_show::{Follow, Look, View};
 use bp_types::{Command, Span};
 use std::test::Fail;
 use std::thread::{Threads, for_each_mut, join};
-
-const N0: Span = Span { from: 0, to: 1 };
-
-const N12: Span = Span { from: 1, to: 3 };
 
 // A look at a span, where the view has its nights.
 fn look(view: &mut View, span: Span) -> Option<Look>
@@ -39,7 +35,7 @@ fn is(look: Option<Look>, number: u64, position: u64, sum: u64) -> bool {
 fn a_screen_follows(rt: HostRuntime) -> Result<(), Fail> {
     let (mut lobby, mut views) = Lobby::open(&rt, rt.alloc(), THREE_NIGHTS, 1)?;
     lobby.ask(&rt, Command::Book { stay: 0 });
-    let published = lobby.submit(&rt, rt.alloc(), (140, &[0, 0, 1, 2], &[0, 120, 40]))?;
+    let published = lobby.submit(&rt, rt.alloc(), AFTER_ONE)?;
     assert_eq!(rt; published, Ok(1));
     let Some(view) = views.get_mut(0) else {
         return Err("no view".into());
@@ -138,9 +134,9 @@ fn sixteen_views_at_once(rt: HostRuntime) -> Result<(), Fail> {
 
 #[test]
 fn an_evening_at_the_desk(rt: HostRuntime) -> Result<(), Fail> {
-    let house = house(rt.alloc(), THREE_NIGHTS, LIMITS)?;
-    let opening = certificate(rt.alloc(), THREE_NIGHTS.3)?;
-    let later = certificate(rt.alloc(), (140, &[0, 0, 1, 2], &[0, 120, 40]))?;
+    let house = three_nights(rt.alloc(), LIMITS)?;
+    let opening = certificate(rt.alloc(), OPENING)?;
+    let later = certificate(rt.alloc(), AFTER_ONE)?;
     let (lobby, website) = evening(&rt, rt.alloc(), house, opening, later)?;
     assert!(rt; is(lobby, 1, 3, 160) && is(website, 1, 3, 160));
     Ok(())

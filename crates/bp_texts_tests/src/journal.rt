@@ -1,19 +1,12 @@
 //! Journals: each refusal at its line, the entry that each line tells, and what is written of a book.
 
-ghost use Rattle.std.specs.Prelude.{◌≡◌, IfOk};
-ghost use Rattle.std.specs.Arc.{arc_value};
-ghost use Rattle.bp_types.specs.Claim.{IsCertificateOf};
-ghost use Rattle.bp_types.specs.House.{opening};
-
 use crate::lines::{text_of, text_with};
-use bp_board::Board;
-use bp_cert::{Verdict, check};
 use bp_core::{Act, Book, Entry, Reply};
 use bp_edges::MemorySink;
+use bp_fixtures::{OPENING, certificate, opening_board, three_nights};
 use bp_journal::{TextError, read, write};
-use bp_types::{Certificate, Command, House, Limits, Span, Stay};
+use bp_types::{Command, Limits, Span};
 use std::alloc::Global;
-use std::sync::Arc;
 use std::test::Fail;
 
 // Three calls of one session on four stays over three nights, and the vectors that were published.
@@ -398,71 +391,19 @@ fn each_kind_of_line_tells_its_entry(rt: HostRuntime) -> Result<(), Fail> {
     Ok(())
 }
 
-const STAYS: [Stay; 4] = [
-    Stay {
-        span: Span { from: 0, to: 2 },
-        rate: 100,
-        forecast: 3,
-    },
-    Stay {
-        span: Span { from: 1, to: 3 },
-        rate: 150,
-        forecast: 1,
-    },
-    Stay {
-        span: Span { from: 0, to: 1 },
-        rate: 60,
-        forecast: 1,
-    },
-    Stay {
-        span: Span { from: 2, to: 3 },
-        rate: 40,
-        forecast: 5,
-    },
-];
-
-fn house(alloc: Global) -> Result<House, Fail> {
-    let rooms = Vec::from_slice(alloc, &[2, 1, 2])?;
-    let sold = Vec::from_slice(alloc, &[0, 0, 0])?;
-    let stays = Vec::from_slice(alloc, &STAYS)?;
-    let limits = Limits {
-        stale_after: 2,
-        entries: 3,
-        publications: 3,
-        unit: 1,
-    };
-    match House::new(rooms, sold, stays, limits) {
-        Ok(house) => Ok(house),
-        Err(error) => Err(Fail::new(error)),
-    }
-}
-
-// A board for the house as it is opened.
-fn opening(alloc: Global, house: &House) -> Result<Arc<Board>, Fail>
-    ensures { IfOk result (λ b. ((arc_value b).position ≡ 0) ×
-        IsCertificateOf (opening house.now) (arc_value b).certificate) }
-{
-    let certificate = Certificate {
-        value: 250,
-        sell: Vec::from_slice(alloc, &[0, 1, 1, 1])?,
-        prices: Vec::from_slice(alloc, &[0, 100, 40])?,
-    };
-    let instance = house.instance(alloc)?;
-    let _nights = instance.nights();
-    match check(&instance, &certificate) {
-        Verdict::Optimal { .. } => {
-            let board = Board::new(alloc, 0, certificate)?;
-            Ok(Arc::new(alloc, board)?)
-        }
-        verdict => Err(Fail::new(format_args!("{verdict:?}"))),
-    }
-}
+const LIMITS: Limits = Limits {
+    stale_after: 2,
+    entries: 3,
+    publications: 3,
+    unit: 1,
+};
 
 #[test]
 fn a_book_is_written_as_a_journal_of_the_second_version(rt: HostRuntime) -> Result<(), Fail> {
     let alloc = rt.alloc();
-    let house = house(alloc)?;
-    let board = opening(alloc, &house)?;
+    let house = three_nights(alloc, LIMITS)?;
+    let opening = certificate(alloc, OPENING)?;
+    let board = opening_board(alloc, &house.instance(alloc)?, opening)?;
     let book = Book::new(alloc, house, board)?;
     let mut out = MemorySink::new(Vec::new(alloc));
     write(alloc, &book, &mut out)?;

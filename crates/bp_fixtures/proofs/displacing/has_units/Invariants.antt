@@ -1,5 +1,5 @@
 use Rattle.std.proofs.Common.{◌≤◌, ◌<◌, ℕ, slice_index}
-use Rattle.bp_desk_tests.proofs.quoting.has_units.Given as goal
+use Rattle.bp_fixtures.proofs.displacing.has_units.Given as goal
 
 -- the nights before this one have the units
 abbrev pub invariant-loop-night : goal.invariant-loop-night

@@ -22,15 +22,13 @@ import multiprocessing
 import os
 import random
 import shutil
-import signal
 import sys
-import tempfile
 import time
 
 from answers import complaint
 from damages import damaged, damaged_words
 from lines import COMMANDS, HOTEL, list_of, make, make_small, words_of
-from program import FOLDER, program
+from program import FOLDER, TOP, Runs, place_for_files, program
 
 SECONDS = 60
 SMALL = 8  # made from seeds, beside the one of the examples
@@ -66,40 +64,21 @@ class Answers:
 
 
 class Bench:
-    """One process's place for a run: its damaged file, and the files that take what the program writes."""
+    """One process's place for its runs: a folder with its damaged file, and lists that name that file."""
 
     def __init__(self, place, texts, seed):
-        self.texts, self.seed, self.ours, self.late = texts, seed, os.path.abspath(program()), False
-        self.folder = os.path.join(place, f"process-{os.getpid()}")
-        os.makedirs(self.folder)
-        os.chdir(self.folder)
-        self.input, self.said, self.errors = (os.open(name, os.O_RDWR | os.O_CREAT) for name in ("damaged", "said", "errors"))
-        self.nothing = os.open(os.devnull, os.O_RDONLY)
-        self.actions = [(os.POSIX_SPAWN_DUP2, file, at) for at, file in enumerate((self.nothing, self.said, self.errors))]
-        signal.signal(signal.SIGALRM, self.stop)
+        self.texts, self.seed = texts, seed
+        folder = os.path.join(place, f"process-{os.getpid()}")
+        os.makedirs(folder)
+        self.runs = Runs(folder, SECONDS)
+        os.chdir(folder)
+        self.input = os.open("damaged", os.O_RDWR | os.O_CREAT)
         for shelf in texts:
             for at in range(10):
                 names = [f"../{shelf}/{name}" for name in (*HOTEL, "script.csv")] * 2
                 names[at] = "damaged"
                 with open(f"list-{shelf}-{at}", "w") as out:
                     out.write(list_of([names[:5], names[5:]]))
-
-    def stop(self, *_):
-        self.late = True
-        os.kill(self.child, signal.SIGKILL)
-
-    def run(self, words):
-        """The status, the text and what is on standard error of a run that ends in time, and its seconds."""
-        for file in (self.said, self.errors):
-            os.ftruncate(file, 0)
-            os.lseek(file, 0, os.SEEK_SET)
-        begin, self.late = time.perf_counter(), False
-        self.child = os.posix_spawn(self.ours, [b"bidprice", *words], {}, file_actions=self.actions)
-        signal.alarm(SECONDS)
-        status = os.waitstatus_to_exitcode(os.waitpid(self.child, 0)[1])
-        signal.alarm(0)
-        seconds = time.perf_counter() - begin
-        return status, *(os.pread(file, os.fstat(file).st_size, 0) for file in (self.said, self.errors)), seconds
 
     def put(self, data):
         os.ftruncate(self.input, 0)
@@ -109,13 +88,14 @@ class Bench:
         return random.Random(f"{self.seed} {command} {nth}")
 
     def try_one(self, command, nth):
-        """One input: what was tried, and what became of it."""
+        """One input: what was tried, what became of it, and what is wrong with that, or None."""
         trial = self.make(command, nth)
         if trial.data is not None:
             self.put(trial.data)
-        status, text, errors, seconds = self.run(trial.words)
-        fault = complaint(trial.words, status, text, errors, trial.damaged, trial.too_long, trial.may_fail)
-        return trial, status, text, seconds, f"no end within {SECONDS} seconds" if self.late else fault
+        run = self.runs.run(trial.words)
+        if run.late:
+            return trial, run, f"no end within {SECONDS} seconds"
+        return trial, run, complaint(trial.words, run.status, run.text, run.errors, trial.damaged, trial.too_long, trial.may_fail)
 
     def make(self, command, nth):
         draw = self.draw(command, nth)
@@ -151,7 +131,7 @@ def keep(command, nth, trial, told):
             out.write(trial.data)
     with open(os.path.join(path, "line"), "wb") as out:
         out.write(b"bidprice " + b" ".join(trial.words) + b"\n" + told.encode() + b"\n")
-    return os.path.relpath(path)
+    return os.path.relpath(path, TOP)
 
 
 def begin(*how):
@@ -164,8 +144,8 @@ def try_some(chunk):
     command, first, after = chunk
     answers = Answers()
     for nth in range(first, after):
-        trial, status, _, seconds, fault = bench.try_one(command, nth)
-        answers.add(nth, status, seconds, fault)
+        trial, run, fault = bench.try_one(command, nth)
+        answers.add(nth, run.status, run.seconds, fault)
         if fault:
             keep(command, nth, trial, fault)
     return command, answers
@@ -200,10 +180,10 @@ def try_all(commands, times, jobs, how):
 def try_again(command, nth, how):
     """One input again, with its line and its answer."""
     begin(*how)
-    trial, status, text, seconds, fault = bench.try_one(command, nth)
+    trial, run, fault = bench.try_one(command, nth)
     place = keep(command, nth, trial, fault or "as promised")
     line = b" ".join(trial.words)[:500].decode(errors="replace")
-    print(f"bidprice {line}\nstatus {status} after {seconds * 1000:.1f} ms: {text[:500]!r}\n{fault or 'as promised'}; it is kept in {place}")
+    print(f"bidprice {line}\nstatus {run.status} after {run.seconds * 1000:.1f} ms: {run.text[:500]!r}\n{fault or 'as promised'}; it is kept in {place}")
     return 1 if fault else 0
 
 
@@ -237,7 +217,7 @@ def main():
     if not set(asked.commands) <= set(known):
         words.error("there is no such command")
     os.makedirs(KEPT, exist_ok=True)
-    place = tempfile.mkdtemp(prefix="damage-", dir="/dev/shm" if os.access("/dev/shm", os.W_OK) else None)
+    place = place_for_files("damage-")
     try:
         how = place, texts_of(place), asked.seed
         if asked.only is not None:

@@ -43,4 +43,5 @@ tell desk_runs.py $desks
 tell random_runs.py "$random"
 tell program_without_memory.py "$without"
 tell damage.py "$damage"
+tell growing.py
 exit $failed

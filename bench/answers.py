@@ -19,8 +19,8 @@ HOTEL_KEYS = rb"name|first_night|nights|rooms"
 MORE_KEYS = rb"stale_after|entries|publications|unit"
 REFUSED = {
     "text": TEXT,
-    "hotel": rb"nottoml|missing (%b)|kind (%b|%b|night)|date first_night|range (first_night|nights|rooms|%b)|(nightshape|nightoutside|twicenight) \d+"
-    % (HOTEL_KEYS, HOTEL_KEYS, MORE_KEYS, MORE_KEYS),
+    "hotel": rb"nottoml|missing (%b)|kind (%b|%b|night)|date first_night|range (first_night|nights|rooms|%b)"
+    % (HOTEL_KEYS, HOTEL_KEYS, MORE_KEYS, MORE_KEYS) + rb"|(nightshape|nightoutside|twicenight) \d+",
     "stays": table(rb"code|arrival|nights|rate", rb"code|date|number|limit|outside|twicecode"),
     "forecast": table(rb"code|count", rb"code|nocode|number|limit|twicecode"),
     "bookings": table(rb"code|count", rb"code|nocode|number|limit|twicecode") + rb"|overbooked \d+",
@@ -55,7 +55,8 @@ WRITTEN = {
     ("judge", 1): JUDGED,
     ("replay", 0): rb"legal \d+\n",
     ("replay", 1): JUDGED,
-    ("report", 0): rb"night date        rooms   sold   left       price\n(.*\n)+stay              asked accepted toolow noroom cancelled forecast\n(.*\n)*value \d+\n",
+    ("report", 0): rb"night date        rooms   sold   left       price\n(.*\n)+"
+    rb"stay              asked accepted toolow noroom cancelled forecast\n(.*\n)*value \d+\n",
     ("report", 1): JUDGED,
     ("scenarios", 0): rb"(scenario \d+ (value \d+ prices( \d+)+|refused \d+)\n)*",
     ("sheet", 0): rb"(night \d+ price \d+ gain (\d+|-) loss (\d+|-)\n)+(arrival \d+ (least \d+|closed) hurdles( \d+)+\n)+",
@@ -70,7 +71,7 @@ def is_name(word):
     return len(word) > 0 and not word.startswith(b"-")
 
 
-def is_number(word, least=0, most=999_999_999):
+def is_number(word, least, most):
     return re.fullmatch(rb"[0-9]{1,9}", word) is not None and least <= int(word) <= most
 
 
@@ -89,9 +90,11 @@ def is_plain(words):
     if command in ("desk", "portfolio") and len(rest) > 2 and rest[-2] == b"--workers" and is_number(rest[-1], 0, 16):
         rest = rest[:-2]
     if command == "demo":
-        return len(rest) == 4 and is_number(rest[0]) and is_number(rest[1], 1, 400) and is_number(rest[2], 0, 10_000) and is_number(rest[3], 0, 4_000)
+        ranges = [(0, 999_999_999), (1, 400), (0, 10_000), (0, 4_000)]
+        return len(rest) == 4 and all(is_number(word, *limits) for word, limits in zip(rest, ranges))
     if command == "group":
-        return len(rest) == 4 and is_name(rest[0]) and is_number(rest[1]) and is_number(rest[2]) and is_number(rest[3], 1, 10_000)
+        ranges = [(0, 999_999_999), (0, 999_999_999), (1, 10_000)]
+        return len(rest) == 4 and is_name(rest[0]) and all(is_number(word, *limits) for word, limits in zip(rest[1:], ranges))
     names = 1 if command == "portfolio" else len(FILES.get(command, []))
     return names > 0 and len(rest) == names and all(map(is_name, rest))
 

@@ -1,5 +1,5 @@
 #!/usr/bin/env python3
-"""Gives each command damaged files and damaged words, a hundred thousand times, and sees that it ends as it is promised to.
+"""Gives each command damaged files and damaged words, many times, and sees that it ends as it is promised to.
 
     bench/damage.py [TIMES [COMMAND..]] [--seed SEED] [--jobs JOBS] [--only NTH]
 
@@ -95,7 +95,8 @@ class Bench:
         run = self.runs.run(trial.words)
         if run.late:
             return trial, run, f"no end within {SECONDS} seconds"
-        return trial, run, complaint(trial.words, run.status, run.text, run.errors, trial.damaged, trial.too_long, trial.may_fail)
+        answer = run.status, run.text, run.errors
+        return trial, run, complaint(trial.words, *answer, trial.damaged, trial.too_long, trial.may_fail)
 
     def make(self, command, nth):
         draw = self.draw(command, nth)
@@ -114,7 +115,8 @@ class Bench:
         if command == "portfolio":
             words = ["portfolio", "damaged" if at == 0 else f"list-{shelf}-{at - 1}", "--workers", "0"]
         else:
-            words = words_of(command, ["damaged" if at == place else f"../{shelf}/{file}" for place, file in enumerate(names)])
+            files = ["damaged" if at == place else f"../{shelf}/{file}" for place, file in enumerate(names)]
+            words = words_of(command, files)
         return Trial([word.encode() for word in words], at + 1, data, len(data) > limit, command == "portfolio" and at == 0)
 
     def whole_line(self, command, shelf):
@@ -154,7 +156,8 @@ def try_some(chunk):
 def row(command, answers, times):
     counts = "".join(f"{answers.statuses[status] or '':>8}" for status in STATUSES)
     mean = answers.seconds / times * 1000
-    print(f"{command:10}{times:>8}{counts}{len(answers.wrong):>7}{mean:>9.2f}{answers.slowest[0] * 1000:>10.1f}  {answers.slowest[1]}", flush=True)
+    most, slowest = answers.slowest
+    print(f"{command:10}{times:>8}{counts}{len(answers.wrong):>7}{mean:>9.2f}{most * 1000:>10.1f}  {slowest}", flush=True)
     for nth, fault in answers.wrong[:10]:
         print(f"    input {nth}: {fault}")
 
@@ -183,7 +186,8 @@ def try_again(command, nth, how):
     trial, run, fault = bench.try_one(command, nth)
     place = keep(command, nth, trial, fault or "as promised")
     line = b" ".join(trial.words)[:500].decode(errors="replace")
-    print(f"bidprice {line}\nstatus {run.status} after {run.seconds * 1000:.1f} ms: {run.text[:500]!r}\n{fault or 'as promised'}; it is kept in {place}")
+    print(f"bidprice {line}\nstatus {run.status} after {run.seconds * 1000:.1f} ms: {run.text[:500]!r}")
+    print(f"{fault or 'as promised'}; it is kept in {place}")
     return 1 if fault else 0
 
 

@@ -2,8 +2,11 @@
 import re
 
 NUMBER = re.compile(rb"\d+")
-PIECES = [b"\0", b"\xef\xbb\xbf", b"\r", b"\n", b"\r\n", b" ", b"\t", b",", b'"', b"'", b"-", b"+", b".", b"#", b"[", b"]", b"{", b"=",
-          b"\\", b"\xff", b"\xc0\x80", b"\xed\xa0\x80", "é".encode(), "\u2028".encode(), "٣".encode(), b"0", b"1", b"9" * 40]
+NO_TEXTS = [b"\xff", b"\xc0\x80", b"\xed\xa0\x80"]
+MARKS = [b",", b'"', b"'", b"-", b"+", b".", b"#", b"[", b"]", b"{", b"=", b"\\"]
+PIECES = [*NO_TEXTS, *MARKS, b"\0", b"\xef\xbb\xbf", b"\r", b"\n", b"\r\n", b" ", b"\t", b"0", b"1", b"9" * 40]
+PIECES += [piece.encode() for piece in ("é", "\u2028", "٣")]
+ENCODINGS = ["utf-16", "utf-16-le", "utf-32", "utf-8-sig", "utf-7", "cp037"]
 
 
 def flip(draw, text):
@@ -53,7 +56,7 @@ def grow_digits(draw, text):
 
 
 def recode(draw, text):
-    text[:] = text.decode("utf-8", "replace").encode(draw.choice(["utf-16", "utf-16-le", "utf-32", "utf-8-sig", "utf-7", "cp037"]), "replace")
+    text[:] = text.decode("utf-8", "replace").encode(draw.choice(ENCODINGS), "replace")
 
 
 def other_ends(draw, text):
@@ -137,14 +140,15 @@ def damaged(draw, data):
     return bytes(text)
 
 
-OTHER_WORDS = [b"", b"-", b"--", b"--help", b"--workers", b"--workers=2", b"-1", b"+1", b"1.0", b"0x1", b"017", b"\xff", b"\xed\xa0\x80", b"a" * 100_000,
-               b".", b"..", b"/", b"check", b"solve", b"desk", b"demo", b"portfolio", "٣".encode(), b" 1", b"1\n", b"*"]
+OTHER_WORDS = [b"", b"-", b"--", b"--help", b"--workers", b"--workers=2", b"-1", b"+1", b"1.0", b"0x1", b"017", b" 1", b"1\n"]
+OTHER_WORDS += [b".", b"..", b"/", b"*", b"check", b"solve", b"desk", b"demo", b"portfolio", "٣".encode(), b"a" * 100_000]
+OTHER_WORDS += NO_TEXTS
+AT_A_LIMIT = [0, 1, 9, 16, 17, 399, 400, 401, 3_999, 4_000, 4_001, 9_999, 10_000, 10_001, 10**9 - 1, 10**9, 2**32, 2**64]
 
 
 def other_number(draw):
     """A word of digits: often one at a limit, else one of any length, small ones as likely as great ones."""
-    at_a_limit = [0, 1, 9, 16, 17, 399, 400, 401, 3_999, 4_000, 4_001, 9_999, 10_000, 10_001, 999_999_999, 1_000_000_000, 2**32, 2**64]
-    number = draw.choice(at_a_limit) if draw.random() < 0.25 else int(10 ** (draw.random() * 5))
+    number = draw.choice(AT_A_LIMIT) if draw.random() < 0.25 else int(10 ** (draw.random() * 5))
     return b"0" * draw.choice((0, 0, 0, 0, 1, 5)) + b"%d" % number
 
 

@@ -39,6 +39,7 @@ RECORDS = {
     "script.csv": lambda nth: b"1,cancel,1,,,",
 }
 MOST_RECORDS = {"stays.csv": 4_000, "forecast.csv": 1, "bookings.csv": 1, "script.csv": 200_000}
+LATER = b"%d 1 publish %d vector %d\nvalue 0\nsell 0 0\nprices 0 0\n"
 VECTOR = b"0 0 publish 0 vector 0\nvalue 0\nsell 0 0 0 0\nprices 0 0 0\n1 1 enrol done\n"
 
 
@@ -65,9 +66,10 @@ ANY = {
     "NUL": lambda size: b"\0" * size,
 }
 
+FOUR_KEYS = b'name = "A"\nfirst_night = "2025-07-01"\nnights = 31\nrooms = 2\n'
 TOML = {
     "tables": lambda size: filled(size, b"", b"[[night]]\n"),
-    "nights": lambda size: filled(size, b'name = "A"\nfirst_night = "2025-07-01"\nnights = 31\nrooms = 2\n', b'[[night]]\ndate = "2025-07-01"\nrooms = 1\n'),
+    "nights": lambda size: filled(size, FOUR_KEYS, b'[[night]]\ndate = "2025-07-01"\nrooms = 1\n'),
     "keys": lambda size: counted(size, b'name = "A"\n', lambda nth: b"k%d = 1\n" % nth),
     "keys of a table": lambda size: counted(size, b"[a]\n", lambda nth: b"k%d = 1\n" % nth),
     "dotted keys": lambda size: counted(size, b"", lambda nth: b"a.b%d.c = 1\n" % nth),
@@ -135,7 +137,7 @@ OTHERS = {
 JOURNALS = {
     "prices": lambda size: filled(size, b"journal 2\n0 0 publish 0 vector 0\nvalue 1\nsell", b" 1"),
     "cancels": lambda size: counted(size, b"journal 2\n" + VECTOR, lambda nth: b"%d 1 cancel 1 notbooked\n" % nth, 2),
-    "vectors": lambda size: counted(size, b"journal 2\n" + VECTOR, lambda nth: b"%d 1 publish %d vector %d\nvalue 0\nsell 0 0\nprices 0 0\n" % (nth, nth, nth), 2),
+    "vectors": lambda size: counted(size, b"journal 2\n" + VECTOR, lambda nth: LATER % (nth, nth, nth), 2),
     "a long number": lambda size: filled(size, b"journal 2\n" + VECTOR + b"2 1 book ", b"9", b"\n"),
     "a long word": lambda size: filled(size, b"journal 2\n" + VECTOR + b"2 1 ", b"a", b"\n"),
 }
@@ -204,15 +206,17 @@ def try_file(runs, name, folder, place):
             with open(paths[-1], "wb") as out:
                 out.write(text(GREATEST.get(name, 2**24) // part))
         for command in readers:
-            lines = [words_of(command, [path if file == name else os.path.join(folder, file) for file in COMMANDS[command][0]]) for path in paths]
-            times, faults = times_of(runs, lines)
+            files = [os.path.join(folder, file) for file in COMMANDS[command][0]]
+            at = COMMANDS[command][0].index(name)
+            times, faults = times_of(runs, [words_of(command, [*files[:at], path, *files[at + 1 :]]) for path in paths])
             seen[command].add(kind, times)
             wrong += len(faults)
             for fault in faults:
                 print(f"{command}, {name}, {kind}: {fault}")
     for command, found in seen.items():
         wrong += found.worst[0] > MOST
-        print(f"{command:10}{name:16}{found.kinds:>6}{found.compared:>10}{found.worst[0]:>8.2f}  {found.worst[1]:20}{found.slowest[0]:>8.3f}  {found.slowest[1]}", flush=True)
+        counts = f"{found.kinds:>6}{found.compared:>10}{found.worst[0]:>8.2f}"
+        print(f"{command:10}{name:16}{counts}  {found.worst[1]:20}{found.slowest[0]:>8.3f}  {found.slowest[1]}", flush=True)
     return wrong
 
 

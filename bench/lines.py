@@ -103,7 +103,8 @@ def make_small(program, folder, seed):
     """Writes every file that a command takes into a folder: of a house of a few nights and stays, made from a seed, whose
     one session makes commands of each kind. The journal of its problem is that of a desk before which nothing was sold."""
     draw = random.Random(seed)
-    house = House(seed, nights=draw.randint(2, 8), rooms=draw.randint(1, 5), stays=draw.randint(4, 8), stale_after=100_000, groups=0.1)
+    nights, rooms, stays = draw.randint(2, 8), draw.randint(1, 5), draw.randint(4, 8)
+    house = House(seed, nights, rooms, stays, stale_after=100_000, groups=0.1)
     house.write(folder)
     write(folder, "problem", house.problem().encode())
     make_certificate(program, folder)

@@ -33,7 +33,8 @@ Line = collections.namedtuple("Line", "name command words files whole legal")
 
 def without_sales(text):
     """A text without its lines on how many of each stay are sold, of which the last may be cut, even in its word."""
-    return b"".join(line for line in text.splitlines(keepends=True) if not line.startswith(b"sell") and not b"sell".startswith(line))
+    lines = text.splitlines(keepends=True)
+    return b"".join(line for line in lines if not line.startswith(b"sell") and not b"sell".startswith(line))
 
 
 def fewer_rooms(problem):
@@ -101,7 +102,8 @@ class Judge:
             parts = text.split(b"certificate 1\n")[1:]
             problems = [here("first", problem), here("second", fewer_rooms(problem))]
             whole = [(of, part) for of, part in zip(problems, parts) if part.endswith(b"\nend\n")]
-            return all(self.said("check", of, here("certificate", b"certificate 1\n" + part)).startswith(b"optimal ") for of, part in whole)
+            checked = [self.said("check", of, here("certificate", b"certificate 1\n" + part)) for of, part in whole]
+            return all(text.startswith(b"optimal ") for text in checked)
         if line.command in ("desk", "portfolio"):
             folder = os.path.dirname(line.files[0])
             files = [os.path.join(folder, name) for name in HOTEL]
@@ -180,7 +182,8 @@ def try_line(pool, judge, library, line, size, most):
     allocations = count(judge, library, line.words)
     picked = chosen(allocations, most)
     ends, wrong = collections.Counter(), []
-    for more, faults in pool.imap_unordered(try_some, [(library, line, picked[at : at + CHUNK]) for at in range(0, len(picked), CHUNK)]):
+    tasks = [(library, line, picked[at : at + CHUNK]) for at in range(0, len(picked), CHUNK)]
+    for more, faults in pool.imap_unordered(try_some, tasks):
         ends += more
         wrong += faults
     least, faults = try_spaces(judge, line)

@@ -12,8 +12,8 @@ Of each run: it ends, with status 0 or 7; `replay` calls its journal legal, with
 are the first of its own, in order, with a Leave behind them, and nobody else makes one; the vectors are no more than two
 and one for each `lead` commands; at 0 all commands are there and no change stands after the last vector's position; and
 at 7 one of the three causes holds that cut a run. Last, two runs at the greatest house: 400 nights of 10,000 rooms, 4,000
-stays, unit 100, 200,000 commands of 32 sessions; one makes them all, and one comes to 1,000 vectors before. Prints a row a way; a run that is not so is kept in
-out/bench/failed, and the script ends with status 1.
+stays, unit 100, 200,000 commands of 32 sessions; one makes them all, and one comes to 1,000 vectors before. Prints a row
+a way; a run that is not so is kept in out/bench/failed, and the script ends with status 1.
 """
 import collections
 import datetime

@@ -10,7 +10,8 @@ damaged, or of a line the words (the rows `demo`, which reads no file, and `word
 doubled, swapped or put in, digits grown, lines moved, dropped, repeated or swapped, fields emptied, another encoding, a
 NUL, a byte order mark, nothing at all. Whatever it is, the program has to end by itself within a minute, with a status
 that this command has and the text that goes with it, and with nothing on standard error. A refusal may not name a file
-before the damaged one, and `toolong` and the usage text come exactly where they have to.
+before the damaged one, and `toolong` and the usage text come exactly where they have to; `check` has to call a certificate
+of `solve` optimal, and `replay` a journal of `desk` legal.
 
 Prints a row a command: how often each status came, and the seconds of the slowest input. An input that was not answered
 so is kept in out/bench/damage with its line, and the script ends with status 1. Input NTH of a command is made from SEED,
@@ -96,7 +97,21 @@ class Bench:
         if run.late:
             return trial, run, f"no end within {SECONDS} seconds"
         answer = run.status, run.text, run.errors
-        return trial, run, complaint(trial.words, *answer, trial.damaged, trial.too_long, trial.may_fail)
+        fault = complaint(trial.words, *answer, trial.damaged, trial.too_long, trial.may_fail)
+        return trial, run, fault or self.misjudged(command, trial.words, run)
+
+    def misjudged(self, command, words, run):
+        """What another command says against an answer, or None: `check` of a certificate, and `replay` of a journal."""
+        if (command, run.status) == ("solve", 0):
+            judging, wanted = [b"check", words[1], b"answer"], b"optimal "
+        elif command == "desk" and run.status in (0, 7):
+            judging, wanted = [b"replay", *words[1:5], b"answer"], b"legal "
+        else:
+            return None
+        with open("answer", "wb") as out:
+            out.write(run.text)
+        said = self.runs.run(judging).text
+        return None if said.startswith(wanted) else f"{judging[0].decode()} says {said[:200]!r} of the answer"
 
     def make(self, command, nth):
         draw = self.draw(command, nth)

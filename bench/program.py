@@ -72,7 +72,6 @@ class Runs:
         self.files = [os.open(os.devnull, os.O_RDONLY)]
         self.files += [os.open(os.path.join(folder, name), os.O_RDWR | os.O_CREAT) for name in ("said", "errors")]
         self.actions = [(os.POSIX_SPAWN_DUP2, file, at) for at, file in enumerate(self.files)]
-        signal.signal(signal.SIGALRM, self.stop)
 
     def stop(self, *_):
         self.late = True
@@ -85,6 +84,7 @@ class Runs:
             os.lseek(file, 0, os.SEEK_SET)
         begin, self.late = time.perf_counter(), False
         self.child = os.posix_spawn(self.ours, [self.ours, *words], environment, file_actions=self.actions)
+        signal.signal(signal.SIGALRM, self.stop)
         signal.alarm(self.limit)
         _, status, used = os.wait4(self.child, 0)
         signal.alarm(0)

@@ -74,7 +74,7 @@ class Judge:
     def __init__(self, place):
         self.folder = os.path.join(place, f"process-{os.getpid()}")
         os.makedirs(self.folder)
-        self.runs, self.judging = Runs(self.folder, 120), Runs(self.folder, 120)
+        self.runs = Runs(self.folder, 120)
 
     def refused(self, library, words, nth, all_later):
         """The answer with the nth allocation refused, or None where there are not so many."""
@@ -82,7 +82,7 @@ class Judge:
         return (run.status, run.text) if run.errors or run.late else None
 
     def said(self, *words):
-        return self.judging.run(list(words)).text
+        return self.runs.run(list(words)).text
 
     def is_right(self, line, found):
         """Whether a line answered as it does with ample memory, or a first part of that at status 6."""

@@ -138,9 +138,9 @@ def try_cases(times, draw):
         if fault:
             wrong[case.command] += 1
             print(f"{name}: {fault}; it is in {os.path.relpath(folder)}")
-    print(f"{'command':10}{'inputs':>8}" + "".join(f"{f'status {s}' if s == 0 else s:>8}" for s in range(8)) + f"{'no end':>8}{'wrong':>7}")
+    print(f"{'command':10}{'inputs':>8}" + "".join(f"{f'status {s}' if s == 0 else s:>9}" for s in range(8)) + f"{'no end':>9}{'wrong':>7}")
     for command, counts in statuses.items():
-        counted = "".join(f"{counts[found] or '':>8}" for found in [*range(8), None])
+        counted = "".join(f"{counts[found] or '':>9}" for found in [*range(8), None])
         print(f"{command:10}{counts.total():>8}{counted}{wrong[command]:>7}")
     told = said.decode(errors="replace").splitlines() or ["nothing was said"]
     print(f"the kit: {told[-1]}", flush=True)

@@ -169,7 +169,7 @@ def try_some(chunk):
 
 
 def row(command, answers, times):
-    counts = "".join(f"{answers.statuses[status] or '':>8}" for status in STATUSES)
+    counts = "".join(f"{answers.statuses[status] or '':>9}" for status in STATUSES)
     mean = answers.seconds / times * 1000
     most, slowest = answers.slowest
     print(f"{command:10}{times:>8}{counts}{len(answers.wrong):>7}{mean:>9.2f}{most * 1000:>10.1f}  {slowest}", flush=True)
@@ -179,7 +179,7 @@ def row(command, answers, times):
 
 def try_all(commands, times, jobs, how):
     """A row of each command, whose inputs are spread over the processes; and how many answers were wrong."""
-    print(f"{'command':10}{'inputs':>8}" + "".join(f"{f'status {s}' if s == 0 else s:>8}" for s in STATUSES)
+    print(f"{'command':10}{'inputs':>8}" + "".join(f"{f'status {s}' if s == 0 else s:>9}" for s in STATUSES)
           + f"{'wrong':>7}{'mean ms':>9}{'most ms':>10}  the slowest input", flush=True)
     chunks = [(command, first, min(first + CHUNK, times)) for command in commands for first in range(0, times, CHUNK)]
     begun, wrong, done = time.perf_counter(), 0, {command: (Answers(), []) for command in commands}

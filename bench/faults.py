@@ -16,7 +16,7 @@ import subprocess
 import sys
 import threading
 
-from lines import COMMANDS, READS, files_of, make, run, words_of
+from lines import COMMANDS, HOTEL, READS, files_of, list_of, make, run, words_of, write
 from program import FOLDER, build_library, program
 
 NOBODY = 65534
@@ -46,17 +46,23 @@ def try_files(row, command, files, folder):
     with open(closed, "w"):
         pass
     os.chmod(closed, 0)
-    for at in range(len(files)):
-        for what, name, how in (("absent", absent, {}), ("a folder", folder, {}), ("closed", closed, {"preexec_fn": as_nobody})):
+    for what, name, how in (("absent", absent, {}), ("a folder", folder, {}), ("closed", closed, {"preexec_fn": as_nobody})):
+        for at in range(len(files)):
             changed = [name if nth == at else file for nth, file in enumerate(files)]
             found = run(program(), words_of(command, changed), **how)
             row.expect(f"file {at + 1} {what}", found == (4, b"fault %d\n" % (at + 1)), found)
+        for at in range(10 if command == "portfolio" else 0):
+            listed = [os.path.join(folder, file) for file in (*HOTEL, "script.csv")] * 2
+            listed[at] = name
+            write(folder, "list-of-faults", list_of([listed[:5], listed[5:]]).encode())
+            found = run(program(), words_of(command, [os.path.join(folder, "list-of-faults")]), **how)
+            row.expect(f"file {at + 2} {what}", found == (4, b"fault %d\n" % (at + 2)), found)
 
 
 def try_calls(row, command, files, library, whole):
     words = words_of(command, files)
     for call in ("open", "read", "write", "brief", "short"):
-        last_file, nth = 0, 0
+        last_file, nth, faults = 0, 0, set()
         while True:
             nth += 1
             env = {**os.environ, "LD_PRELOAD": library, "FAIL": call, "NTH": str(nth)}
@@ -73,7 +79,12 @@ def try_calls(row, command, files, library, whole):
                 of_the_system = nth > READS.get(command, len(files)) and found == whole  # it asks how many processors there are
                 held = of_the_system or found[0] == 4 and fault and last_file <= int(fault[1]) <= READS.get(command, len(files))
                 last_file = int(fault[1]) if fault else last_file
+                faults |= {last_file} - {0}
             row.expect(f"{call} {nth}", held, (found[0], found[1][:100]))
+        if call in ("open", "read"):  # so no file is left out, and none stands for another
+            row.expect(f"{call} of each file", faults == set(range(1, READS.get(command, len(files)) + 1)), faults)
+        else:
+            row.expect(f"{call} at all", nth > 1 or (call == "brief" and not files), "none was tried")
 
 
 def try_output(row, command, files, whole):

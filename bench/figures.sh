@@ -11,9 +11,9 @@ here=$(dirname -- "$(readlink -f -- "$0")")
 kept=$here/../out/bench/figures
 mkdir -p "$kept"
 if [ "${1:-}" = SHORT ]; then
-    damage=500 without=100 random=50 desks="50 1000"
+    damage=500 without=100 random=50 desks="50 1000" growing="certificate list"
 else
-    damage=100000 without=2000 random=1000 desks="1000 5000"
+    damage=100000 without=2000 random=1000 desks="1000 5000" growing=""
 fi
 failed=0
 
@@ -43,4 +43,6 @@ tell desk_runs.py $desks
 tell random_runs.py "$random"
 tell program_without_memory.py "$without"
 tell damage.py "$damage"
+# shellcheck disable=SC2086
+tell growing.py $growing
 exit $failed

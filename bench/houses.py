@@ -47,6 +47,12 @@ class House:
                 out.write(text)
         return paths
 
+    def problem(self):
+        """The text of the problem that the house opens with."""
+        rows = [f"stay {start} {start + length} {rate} {forecast}" for start, length, rate, forecast in self.stays]
+        rooms = " ".join([str(self.rooms * self.unit)] * self.nights)
+        return "\n".join(["problem 1", f"nights {self.nights}", f"rooms {rooms}", f"stays {len(rows)}", *rows, "end", ""])
+
     def command(self, booked):
         """One command, where so many bookings were asked for before: mostly a booking."""
         stay = self.draw.randrange(len(self.stays))

@@ -24,6 +24,7 @@ STAYS = "code,arrival,nights,rate\nP0,2025-07-01,2,100\nP1,2025-07-02,2,150\n"
 COUNTS = "code,count\n"
 SCRIPT = "session,verb,item,nights,rooms,amount\n"
 EMPTY = {"hotel": HOTEL, "stays": STAYS, "forecast": COUNTS, "bookings": COUNTS, "script": SCRIPT}
+ONE_NIGHT = "code,arrival,nights,rate\nP0,2025-07-01,1,100\n"
 DESK = ["desk", "hotel", "stays", "forecast", "bookings", "script", "--workers", "0"]
 
 
@@ -46,6 +47,7 @@ def journal(entry):
     return f"journal 2\n0 0 publish 0 vector 0\n{claim}1 1 enrol done\n{entry}\nend\n"
 
 
+CLAIM = "value 0\nsell 0\nprices 0 0 0"
 NO_DEMAND = problem(stays=[(0, 2, 100, 0)])
 
 
@@ -65,6 +67,23 @@ def judge(entry):
     return ["judge", "problem", "journal"], {"problem": NO_DEMAND, "journal": journal(entry)}
 
 
+def long_history(entries):
+    """A journal of a problem without forecasts: these entries of places 2, 3 and so on, behind caller 1's Enrol."""
+    lines = [f"{2 + nth} {entry}" + ("\n" + CLAIM if " publish " in entry else "") for nth, entry in enumerate(entries)]
+    text = "\n".join([f"journal 2\n0 0 publish 0 vector 0\n{CLAIM}\n1 1 enrol done", *lines, "end", ""])
+    return ["judge", "problem", "journal"], {"problem": NO_DEMAND, "journal": text}
+
+
+def cancels(count):
+    """A journal of so many commands."""
+    return long_history(["1 cancel 1 notbooked"] * count)
+
+
+def vectors(count):
+    """A journal of so many vectors, each after a new forecast."""
+    return long_history([entry for nth in range(1, count) for entry in ("1 reforecast 0 0 done", f"0 publish {2 * nth + 1} vector {nth}")])
+
+
 def desk(workers="0", **files):
     return [*DESK[:-1], workers], {**EMPTY, **files}
 
@@ -73,8 +92,8 @@ def script(*records, **files):
     return desk(script=SCRIPT + "".join(record + "\n" for record in records), **files)
 
 
-def hotel(key, value):
-    return desk(hotel=re.sub(rf"^{key} = .*$", f"{key} = {value}", HOTEL, flags=re.M) if f"\n{key} = " in HOTEL else HOTEL + f"{key} = {value}\n")
+def hotel(key, value, **files):
+    return desk(**files, hotel=re.sub(rf"^{key} = .*$", f"{key} = {value}", HOTEL, flags=re.M) if f"\n{key} = " in HOTEL else HOTEL + f"{key} = {value}\n")
 
 
 def stay(code="P2", arrival="2025-07-01", nights=1, rate=100, **files):
@@ -170,16 +189,24 @@ LIMITS = [
     ("a number in a journal, 2^64 - 1", judge(f"2 1 book 0 accepted 0 {NOBODY}"), "illegal 2 reply", judge(f"2 1 book 0 accepted 0 {NOBODY + 1}"), "refused 2 limit 7"),
     ("a displacement, 10^30", judge(f"2 1 group 0 1 1 0 accepted {10**30}"), "illegal 2 reply", judge(f"2 1 group 0 1 1 0 accepted {10**30 + 1}"), "refused 2 limit 7"),
     ("a caller, 63", judge("2 63 enrol done"), "legal 3", judge("2 64 enrol done"), "illegal 2 caller"),
-    ("nights of a hotel, 1", hotel("nights", 3), TAKEN, hotel("nights", 0), "refused 1 range nights"),
+    ("commands of a journal, 200,000", cancels(200_000), "legal 200002", cancels(200_001), "illegal 200002 limit"),
+    ("vectors of a journal, 1,000", vectors(1_000), "legal 2000", vectors(1_001), "illegal 2001 limit"),
+    ("nights of a hotel, 1", hotel("nights", 1, stays=ONE_NIGHT), TAKEN, hotel("nights", 0), "refused 1 range nights"),
     ("nights of a hotel, 400", hotel("nights", 400), TAKEN, hotel("nights", 401), "refused 1 range nights"),
     ("rooms of a hotel, 10,000", hotel("rooms", 10_000), TAKEN, hotel("rooms", 10_001), "refused 1 range rooms"),
+    ("rooms of a hotel, 0", hotel("rooms", 0), TAKEN, hotel("rooms", -1), "refused 1 range rooms"),
     ("stale_after, 1", hotel("stale_after", 1), TAKEN, hotel("stale_after", 0), "refused 1 range stale_after"),
     ("stale_after, 100,000", hotel("stale_after", 100_000), TAKEN, hotel("stale_after", 100_001), "refused 1 range stale_after"),
     ("entries, 200,000", hotel("entries", 200_000), TAKEN, hotel("entries", 200_001), "refused 1 range entries"),
+    ("entries, 1", hotel("entries", 1), TAKEN, hotel("entries", 0), "refused 1 range entries"),
     ("publications, 1,000", hotel("publications", 1_000), TAKEN, hotel("publications", 1_001), "refused 1 range publications"),
+    ("publications, 1", hotel("publications", 1), TAKEN, hotel("publications", 0), "refused 1 range publications"),
     ("unit, 100", hotel("unit", 100), TAKEN, hotel("unit", 101), "refused 1 range unit"),
+    ("unit, 1", hotel("unit", 1), TAKEN, hotel("unit", 0), "refused 1 range unit"),
+    ("unit, 1 or 100 and none between", hotel("unit", 1), TAKEN, hotel("unit", 2), "refused 1 range unit"),
     ("the last night, 9999-12-30", hotel("first_night", '"9999-12-28"'), "refused 2 outside 2", hotel("first_night", '"9999-12-29"'), "refused 1 range first_night"),
     ("a code, 16 letters", stay(code="A" * 16), TAKEN, stay(code="A" * 17), "refused 2 code 4"),
+    ("a code, 1 letter", stay(code="A"), TAKEN, stay(code=""), "refused 2 code 4"),
     ("nights of a stay, 1", stay(), TAKEN, stay(nights=0), "refused 2 limit 4"),
     ("nights of a stay, to the last", stay(nights=3), TAKEN, stay(nights=4), "refused 2 outside 4"),
     ("rate of a stay, 1", stay(rate=1), TAKEN, stay(rate=0), "refused 2 limit 4"),
@@ -191,15 +218,24 @@ LIMITS = [
     ("sessions, 32", script("32,book,P0,,,"), TAKEN, script("33,book,P0,,,"), "refused 5 session 2"),
     ("a session, 1", script("1,book,P0,,,"), TAKEN, script("0,book,P0,,,"), "refused 5 session 2"),
     ("an old booking, 200,000", script("1,cancel,200000,,,"), TAKEN, script("1,cancel,200001,,,"), "refused 5 limit 2"),
+    ("an old booking, 1", script("1,cancel,1,,,"), TAKEN, script("1,cancel,0,,,"), "refused 5 limit 2"),
     ("a new forecast, 1,000,000", script("1,reforecast,P0,,,1000000"), TAKEN, script("1,reforecast,P0,,,1000001"), "refused 5 limit 2"),
+    ("a new forecast, 0", script("1,reforecast,P0,,,0"), TAKEN, script("1,reforecast,P0,,,-1"), "refused 5 number 2"),
     ("a new rate, 10^9", script("1,reprice,P0,,,1000000000"), TAKEN, script("1,reprice,P0,,,1000000001"), "refused 5 limit 2"),
+    ("a new rate, 1", script("1,reprice,P0,,,1"), TAKEN, script("1,reprice,P0,,,0"), "refused 5 limit 2"),
     ("new rooms, 10,000", script("1,resize,2025-07-01,,10000,"), TAKEN, script("1,resize,2025-07-01,,10001,"), "refused 5 limit 2"),
+    ("new rooms, 0", script("1,resize,2025-07-01,,0,"), TAKEN, script("1,resize,2025-07-01,,-1,"), "refused 5 number 2"),
     ("rooms of a session's group, 10,000", script("1,group,2025-07-01,1,10000,1"), TAKEN, script("1,group,2025-07-01,1,10001,1"), "refused 5 limit 2"),
+    ("rooms of a session's group, 1", script("1,group,2025-07-01,1,1,1"), TAKEN, script("1,group,2025-07-01,1,0,1"), "refused 5 limit 2"),
+    ("nights of a session's group, 1", script("1,group,2025-07-01,1,1,1"), TAKEN, script("1,group,2025-07-01,0,1,1"), "refused 5 limit 2"),
     ("nights of a session's group, to the last", script("1,group,2025-07-02,2,1,1"), TAKEN, script("1,group,2025-07-02,3,1,1"), "refused 5 outside 2"),
     ("what a group pays, 10^15", script(f"1,group,2025-07-01,1,1,{10**15}"), TAKEN, script(f"1,group,2025-07-01,1,1,{10**15 + 1}"), "refused 5 limit 2"),
+    ("what a group pays, 0", script("1,group,2025-07-01,1,1,0"), TAKEN, script("1,group,2025-07-01,1,1,-1"), "refused 5 number 2"),
     ("commands of a script, 200,000", script(*["1,cancel,1,,,"] * 200_000), TAKEN, script(*["1,cancel,1,,,"] * 200_001), "refused 5 limit 200002"),
     ("workers, 16", desk("16"), TAKEN, desk("17"), USAGE),
+    ("workers, 0", desk("0"), TAKEN, desk("-1"), USAGE),
     ("rooms of one night, 10,000", night(10_000), TAKEN, night(10_001), "refused 1 nightshape 0"),
+    ("rooms of one night, 0", night(0), TAKEN, night(-1), "refused 1 nightshape 0"),
     ("commands of a run, as many as entries", full("entries = 3", 3), TAKEN, full("entries = 3", 4), CUT),
     ("vectors of a run, enough and too few", full("stale_after = 2\npublications = 5", 3), TAKEN, full("stale_after = 2\npublications = 1", 3), CUT),
     ("a hotel file, 16 MiB", long_file("hotel", HOTEL + "#", 2**24), TAKEN, long_file("hotel", HOTEL + "#", 2**24 + 1), "refused 1 toolong"),
@@ -208,6 +244,7 @@ LIMITS = [
     ("hotels of a list, 8", hotels(8), TAKEN, hotels(9), "refused 1 limit 2"),
     ("hotels of a list, 1", hotels(1), TAKEN, hotels(0), "refused 1 limit 2"),
     ("a name in a list, 200 bytes", named(200), "fault 2", named(201), "refused 1 badline 3"),
+    ("a name in a list, 1 byte", named(1), "fault 2", named(0), "refused 1 badline 3"),
     ("a list, 16 MiB", long_list(2**24), "refused 1 tooshort", long_list(2**24 + 1), "refused 1 toolong"),
     ("scenarios, 20,000", scenarios(["scenario"] * 20_000), TAKEN, scenarios(["scenario"] * 20_001), "refused 2 limit 20002"),
     ("change lines, 100,000", changed("rate 0 7", 100_000), TAKEN, changed("rate 0 7", 100_001), "refused 2 limit 100003"),

@@ -1,9 +1,10 @@
 """A line of each command, on a small input and on a busy one, for the scripts of this folder that try them hard."""
 import os
+import random
 import subprocess
 
 from generate import generate, problem_text
-from houses import House
+from houses import House, date
 
 EXAMPLES = os.path.join(os.path.dirname(os.path.dirname(os.path.abspath(__file__))), "examples")
 HOTEL = ["hotel.toml", "stays.csv", "forecast.csv", "bookings.csv"]
@@ -82,7 +83,6 @@ def list_of(hotels):
 def make(program, folder, busy):
     """Writes every file that a command takes into a folder: of the examples, or of a season made from a seed."""
     os.makedirs(folder, exist_ok=True)
-    here = lambda *names: [os.path.join(folder, name) for name in names]
     if busy:
         write(folder, "problem", problem_text(*generate(11, 60, 40, 400)).encode())
         house = House(5, nights=60, rooms=12, stays=300, publications=200)
@@ -93,15 +93,47 @@ def make(program, folder, busy):
             write(folder, name, read("lindenhof", name))
         write(folder, "script.csv", by_one_session(read("lindenhof", "script.csv").decode()).encode())
         write(folder, "problem", read("three-nights", "problem"))
-    certificate = said(program, ["solve", *here("problem")])
-    write(folder, "certificate", certificate)
-    claim = b"".join(certificate.splitlines(keepends=True)[1:-1]).decode()
+    claim = make_certificate(program, folder)
     write(folder, "problem-journal", JOURNAL_OF_A_PROBLEM.format(claim=claim).encode())
+    finish(program, folder, 100 if busy else 3)
+    return folder
+
+
+def make_small(program, folder, seed):
+    """Writes every file that a command takes into a folder: of a house of a few nights and stays, made from a seed, whose
+    one session makes commands of each kind. The journal of its problem is that of a desk before which nothing was sold."""
+    draw = random.Random(seed)
+    nights, rooms, stays = draw.randint(2, 8), draw.randint(1, 5), draw.randint(4, 8)
+    house = House(seed, nights, rooms, stays, stale_after=100_000, groups=0.1)
+    house.write(folder)
+    write(folder, "problem", house.problem().encode())
+    make_certificate(program, folder)
+    write(folder, "script.csv", house.script(1, 16).encode())
+    here = [os.path.join(folder, name) for name in (*HOTEL, "script.csv")]
+    write(folder, "problem-journal", said(program, words_of("desk", here)))
+    house.stale_after = draw.randint(2, 6)
+    house.write(folder)
+    with open(here[0], "a") as out:
+        out.write(f'[[night]]\ndate = "{date(house.nights - 1)}"\nrooms = {house.rooms + draw.randint(0, 2)}\n')
+    write(folder, "bookings.csv", f"code,count\n{house.code(0)},1\n".encode())
+    finish(program, folder, 3)
+    return folder
+
+
+def make_certificate(program, folder):
+    """Writes the certificate of a folder's problem, and gives what a journal has of it."""
+    certificate = said(program, ["solve", os.path.join(folder, "problem")])
+    write(folder, "certificate", certificate)
+    return b"".join(certificate.splitlines(keepends=True)[1:-1]).decode()
+
+
+def finish(program, folder, scenarios):
+    """Writes the files that rest on those of a hotel and a problem, where the journal of the problem has to be legal."""
+    here = lambda *names: [os.path.join(folder, name) for name in names]
     said(program, words_of("judge", here("problem", "problem-journal")))
-    write(folder, "changes", changes(100 if busy else 3).encode())
+    write(folder, "changes", changes(scenarios).encode())
     write(folder, "list", list_of([here(*HOTEL, "script.csv")] * 2).encode())
     write(folder, "journal", said(program, words_of("desk", here(*HOTEL, "script.csv")), statuses=(0, 7)))
-    return folder
 
 
 def files_of(command, folder):

@@ -1,8 +1,11 @@
 """Where the program is, and how the scripts of this folder run it and the small C programs beside them."""
+import collections
 import os
 import shutil
+import signal
 import subprocess
 import sys
+import tempfile
 import time
 
 HERE = os.path.dirname(os.path.abspath(__file__))
@@ -55,6 +58,44 @@ def spent(command, said=os.devnull, statuses=(0,)):
     if status not in statuses:
         sys.exit(f"{' '.join(command)} ended with status {status}")
     return taken, used.ru_utime + used.ru_stime, status
+
+
+Run = collections.namedtuple("Run", "status text errors seconds processor late")
+
+
+class Runs:
+    """Runs of the program, one after another and as many a second as can be: the process waits for each, and what it
+    writes goes to two files of a folder. A run that has not ended in time is stopped."""
+
+    def __init__(self, folder, limit=60):
+        self.ours, self.limit, self.child, self.late = os.path.abspath(program()), limit, 0, False
+        self.files = [os.open(os.devnull, os.O_RDONLY)]
+        self.files += [os.open(os.path.join(folder, name), os.O_RDWR | os.O_CREAT) for name in ("said", "errors")]
+        self.actions = [(os.POSIX_SPAWN_DUP2, file, at) for at, file in enumerate(self.files)]
+
+    def stop(self, *_):
+        self.late = True
+        os.kill(self.child, signal.SIGKILL)
+
+    def run(self, words, environment={}):
+        """One run of a line, in an environment of these words alone."""
+        for file in self.files[1:]:
+            os.ftruncate(file, 0)
+            os.lseek(file, 0, os.SEEK_SET)
+        begin, self.late = time.perf_counter(), False
+        self.child = os.posix_spawn(self.ours, [self.ours, *words], environment, file_actions=self.actions)
+        signal.signal(signal.SIGALRM, self.stop)
+        signal.alarm(self.limit)
+        _, status, used = os.wait4(self.child, 0)
+        signal.alarm(0)
+        seconds = time.perf_counter() - begin
+        text, errors = (os.pread(file, os.fstat(file).st_size, 0) for file in self.files[1:])
+        return Run(os.waitstatus_to_exitcode(status), text, errors, seconds, used.ru_utime + used.ru_stime, self.late)
+
+
+def place_for_files(prefix):
+    """A new folder, in memory where the system has such a place. The caller removes it."""
+    return tempfile.mkdtemp(prefix=prefix, dir="/dev/shm" if os.access("/dev/shm", os.W_OK) else None)
 
 
 def timed(command, said=os.devnull, statuses=(0,)):

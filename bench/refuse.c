@@ -9,9 +9,11 @@
 static int refuses(void)
 {
     static const char said[] = "an allocation was refused\n";
-    static long nth, wanted;
+    static _Atomic long count;
+    static long wanted;
     static int all;
-    if (nth++ == 0) {
+    long nth = ++count;
+    if (nth == 1) {
         const char *word = getenv("REFUSE");
         wanted = word ? atol(word) : 0;
         all = getenv("REFUSE_ALL") != NULL;

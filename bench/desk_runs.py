@@ -15,8 +15,8 @@ Then a year of 3,000 stays with four sessions of COMMANDS commands (5,000) each 
 same sessions on a desk in C++ under one mutex, whose optimisers solve afresh by LEMON's network simplex: medians of
 three runs each, in turn. The program's time has the reading of the files and the writing of the journal in it, and that
 of the desk in C++ has not. A vector of a session tells that a booking of it had to wait, since sessions publish for
-nothing else. The script fails where a journal is not as it has to be, and where the program is slower than the desk in
-C++.
+nothing else. The script fails where a journal is not as it has to be, where the run of 200,000 commands takes more than
+64 MiB, and where the program is slower than the desk in C++.
 """
 import os
 import shutil
@@ -34,6 +34,7 @@ BUSY = dict(nights=14, rooms=20, stays=120, stale_after=12, publications=1000)
 LONG = dict(nights=365, rooms=120, stays=3000, stale_after=1000, publications=1000)
 YEAR = dict(nights=365, rooms=120, stays=3000, stale_after=100, publications=1000)
 SESSIONS = 4
+MOST_MEMORY = 64 * 1024  # KiB, of the run of 200,000 commands
 
 
 class Journal:
@@ -102,6 +103,8 @@ def many(name, runs, sessions, commands, workers, shape):
         memory = peak([program(), "desk", *files, script, "--workers", str(workers)]) if runs == 1 else None
     line = f"{name:<10}{runs:>6} runs, all whole and legal, {taken / runs:.3f} s each, {sessions * commands * runs / taken:,.0f} commands a second, "
     print(line + f"{by_sessions} bookings that waited for a vector of their own" + (f", peak {memory} KiB" if memory else ""), flush=True)
+    if memory and memory > MOST_MEMORY:
+        sys.exit("the run takes too much memory")
 
 
 def beside(commands):

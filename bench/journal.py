@@ -4,10 +4,10 @@
     bench/journal.py [COMMANDS..]
 
 It wants gcc, the program, and Python's standard library. The journals are those of runs on a year of 365 nights and
-3,000 stays, with 25,000 to 200,000 commands, or as many as are given, no group among them, and a thousand vectors at
-most. It fails where the longest takes more than five times the C program and a thousand times a whole `check` of that
-size, or more memory than the file, the book and 64 MiB; or where the time grows faster than the commands, whose
-vectors are about as many in each journal.
+3,000 stays, with 25,000 to 200,000 commands, or as many as are given, no group among them, and about a thousand vectors
+each, which sessions publish. It fails where the longest takes more than five times the C program and a thousand times a
+whole `check` of that size, or more memory than the file, the book and 64 MiB; where the time grows faster than the
+commands, whose vectors are about as many in each journal; or where the longest has fewer than 900 vectors.
 
 Then a journal of 11,000 commands, a thousand groups of one to ten rooms among them, is timed beside a whole `bidprice
 group`: it fails where replay takes more than a thousand times that. The last one, of a hundred groups of 5,000 rooms
@@ -22,6 +22,7 @@ from program import FOLDER, build, peak, program, timed
 
 SIZES = [25_000, 50_000, 100_000, 200_000]
 SESSIONS = 4
+FEWEST_VECTORS = 900
 BOOK = 64 * 2**20  # bytes that a book of the greatest limits takes, with its house
 
 
@@ -36,18 +37,21 @@ class Blocks(House):
 
 
 def year(commands, groups=0.0):
-    """A house of 120 rooms a night, with about as many vectors whatever its commands."""
-    return House(commands, nights=365, rooms=120, stays=3000, stale_after=max(20, commands // 480), groups=groups)
+    """A house of 120 rooms a night, with nearly a thousand vectors whatever its commands, if they are 20,000 or more."""
+    # Of a hundred commands some 87 are changes, and a few more where the script is short.
+    stale_after = max(20, commands * 88 // 100_000 + 2)
+    return House(commands, nights=365, rooms=120, stays=3000, stale_after=stale_after, groups=groups)
 
 
 def made(house, commands):
-    """The files and the journal of a run with so many commands at a house."""
+    """The files and the journal of a run with so many commands at a house, without workers: so a vector is published
+    where a booking has to wait for it, and at the end."""
     folder = os.path.join(FOLDER, f"journal-{commands}")
     files = house.write(folder)
     script, journal = os.path.join(folder, "script.csv"), os.path.join(folder, "journal")
     with open(script, "w") as out:
         out.write(house.script(SESSIONS, commands // SESSIONS))
-    timed([program(), "desk", *files, script], said=journal, statuses=(0, 7))
+    timed([program(), "desk", *files, script, "--workers", "0"], said=journal, statuses=(0, 7))
     return files, journal
 
 
@@ -95,6 +99,8 @@ def years(sizes):
         size = os.path.getsize(journal)
         vectors = lines_with(journal, "value")
         print(f"{commands:>9}{vectors:>9}{size:>10}{times[-1]:>9.3f}s{adding:>9.4f}s{check:>9.4f}s{memory:>10}")
+    if sizes == SIZES and vectors < FEWEST_VECTORS:
+        sys.exit("too few vectors")
     if times[-1] > 5 * adding + 1000 * check:
         sys.exit("replay takes too long")
     if times[-1] / times[0] > 1.25 * sizes[-1] / sizes[0]:

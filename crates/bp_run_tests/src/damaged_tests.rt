@@ -10,7 +10,7 @@ use std::test::Fail;
 use std::thread::Threads;
 
 /// Whether a line has this status and writes this text, where X is a file of these bytes.
-fn gives<R: Wait + Threads + Sync>(
+pub(crate) fn gives<R: Wait + Threads + Sync>(
     rt: &R,
     alloc: Global,
     line: &str,

@@ -21,7 +21,7 @@ end
 ";
 
 /// One session books the first stay of the problem, and leaves.
-const JOURNAL: &str = "journal 1
+pub(crate) const JOURNAL: &str = "journal 1
 0 0 publish 0 vector 0
 value 250
 sell 0 1 1 1
@@ -33,7 +33,7 @@ end
 ";
 
 /// One night fewer rooms than are sold, as the bookings of one more stay have it.
-const RESIZED: &str = "journal 1
+pub(crate) const RESIZED: &str = "journal 1
 0 0 publish 0 vector 0
 value 100
 sell 0 0 1 1

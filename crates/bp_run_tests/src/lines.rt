@@ -77,6 +77,7 @@ pub(crate) fn served() -> &'static [Line] {
         ("judge A other-reply", 1, "illegal 2 reply\n"),
         ("judge A resized", 1, "illegal 0 certificate\n"),
         ("replay H S F B J", 0, "legal 4\n"),
+        ("replay H2 S F B no-vector", 1, "illegal 0 opening\n"),
         ("replay H S F one-sold resized", 0, "legal 4\n"),
         ("replay H S F one-sold J", 1, "illegal 0 certificate\n"),
         // A desk's journal is legal on the files that it ran on.
@@ -117,7 +118,7 @@ pub(crate) fn served() -> &'static [Line] {
     ]
 }
 
-/// Lines that are not plain, or ask for a command that is not there yet.
+/// Lines that are not plain.
 pub(crate) fn not_served() -> &'static [&'static str] {
     &[
         "",

@@ -101,13 +101,44 @@ SIXTEEN-LETTERS.      1        0      1      0         0      400
 value 25000
 ";
 
+/// A booking given up twice, a group of each reply, and a night that keeps the room of a group.
+const OTHER_REPLIES: &str = "journal 2
+0 0 publish 0 vector 0
+value 250
+sell 0 1 1 1
+prices 0 100 40
+1 1 enrol done
+2 1 book 0 accepted 0 100
+3 1 cancel 1 cancelled
+4 1 cancel 1 alreadycancelled
+5 1 group 1 3 1 149 toolow 150
+6 1 group 1 3 1 150 accepted 150
+7 1 group 1 2 1 0 noroom 1
+8 1 resize 1 0 belowsold 1
+9 1 leave done
+end
+";
+
+/// Its report, counted by hand: a group's rooms are sold, and no stay's line counts a group.
+const OTHER_REPLIES_REPORT: &str = "night date        rooms   sold   left       price
+    0 2025-07-01      2      0      2           0
+    1 2025-07-02      1      1      0         100
+    2 2025-07-03      2      1      1          40
+stay              asked accepted toolow noroom cancelled forecast
+P0                    1        1      0      0         1        2
+P1                    0        0      0      0         0        1
+P2                    0        0      0      0         0        1
+P3                    0        0      0      0         0        5
+value 250
+";
+
 fn held(alloc: Global, name: &str, text: &str) -> Result<HeldFile, AllocError> {
     let name = String::from_str(alloc, name)?;
     let bytes = Vec::from_slice(alloc, text.as_bytes())?;
     Ok(HeldFile::new(name, bytes))
 }
 
-/// The shared files, and those of the hotel in hundredths, on a shelf that fails at one fetch.
+/// The shared files, those of the hotel in hundredths and one more journal, on a shelf that fails at one fetch.
 fn shelf(alloc: Global, failing: u64) -> Result<MemoryShelf, AllocError> {
     let mut shelf = Vec::new(alloc);
     for (name, text) in files() {
@@ -118,6 +149,7 @@ fn shelf(alloc: Global, failing: u64) -> Result<MemoryShelf, AllocError> {
         ("S100", HUNDREDTHS_STAYS),
         ("F100", HUNDREDTHS_FORECAST),
         ("J100", EACH_REPLY),
+        ("other-replies", OTHER_REPLIES),
     ] {
         shelf.push(held(alloc, name, text)?)?;
     }
@@ -175,6 +207,7 @@ fn reports(rt: HostRuntime) -> Result<(), Fail> {
     for (line, status, text) in [
         ("report H2 S F B T", 0, REPORT),
         ("report H100 S100 F100 B J100", 0, EACH_REPLY_REPORT),
+        ("report H S F B other-replies", 0, OTHER_REPLIES_REPORT),
         // Journals that are no histories of the house.
         ("report H S F B no-vector", 1, "illegal 0 opening\n"),
         ("report H S F B no-enrol", 1, "illegal 1 caller\n"),

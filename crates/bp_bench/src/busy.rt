@@ -1,5 +1,5 @@
-//! A million calls as a busy desk has them: bookings, cancellations, new forecasts, rates and rooms, and groups, with a new
-//! vector after each 200. The program of bench/desk.cpp makes the same calls.
+//! A million calls as a busy desk has them: bookings, cancellations, new forecasts, rates and rooms, and groups, with a
+//! new vector after each 200. The program of bench/desk.cpp makes the same calls.
 ghost use Rattle.std.specs.Prelude.{◌≡◌, ◌<◌, length};
 
 use crate::desk::Desk;

@@ -16,7 +16,8 @@ use std::marker::Model;
 use std::sync::Arc;
 use std::test::Fail;
 
-/// A book that is asked only what it may be asked, and is given only right prices. Contracts see what they see of a book.
+/// A book that is asked only what it may be asked, and is given only right prices. Contracts see what they see of a
+/// book.
 #[derive(Drop)]
 pub(crate) struct Desk {
     book: Book,
@@ -63,7 +64,8 @@ fn board_of(
     position: u64,
     prices: &[u64],
 ) -> Result<Arc<Board>, Fail>
-    ensures { IfOk result (λ b. ((arc_value b).position ≡ position) × IsCertificateOf instance.now (arc_value b).certificate) }
+    ensures { IfOk result (λ b. ((arc_value b).position ≡ position) ×
+        IsCertificateOf instance.now (arc_value b).certificate) }
 {
     let certificate = optimal(alloc, instance, prices)?;
     let _nights = instance.nights();
@@ -117,7 +119,8 @@ impl Desk {
     }
 
     fn all_units_left(&self, alloc: Global) -> Result<Vec<u64>, Fail>
-        ensures { IfOk result (λ v. v.items ≡ map (units_left_at self.now.house self.now.history) (range_with_len 0 (length self.now.house.rooms))) }
+        ensures { IfOk result (λ v. v.items ≡
+            map (units_left_at self.now.house self.now.history) (range_with_len 0 (length self.now.house.rooms))) }
     {
         let mut left = Vec::new(alloc);
         for night in 0..self.book.house().nights() {
@@ -138,7 +141,8 @@ impl Desk {
     }
 
     fn stays_now(&self, alloc: Global) -> Result<Vec<Stay>, Fail>
-        ensures { IfOk result (λ v. v.items ≡ map (stay_now self.now.house self.now.history) (range_with_len 0 (length self.now.house.stays))) }
+        ensures { IfOk result (λ v. v.items ≡
+            map (stay_now self.now.house self.now.history) (range_with_len 0 (length self.now.house.stays))) }
     {
         let mut stays = Vec::new(alloc);
         for stay in 0..self.book.house().stays() {

@@ -1,6 +1,6 @@
-//! A busy hotel of 400 nights and 4,000 stays. On every twentieth night it is closed at no price, and ten nights later at
-//! the greatest price; the other nights have rooms for all guests, and no price.
-use bp_types::limits::MOST_PRICE;
+//! A busy hotel of 400 nights and 4,000 stays. On every twentieth night it is closed at no price, and ten nights later
+//! at the greatest price; the other nights have rooms for all guests, and no price.
+use bp_types::limits::{MOST_ENTRIES, MOST_PRICE, MOST_PUBLICATIONS};
 use bp_types::{Instance, Limits, Memory, Span, Stay};
 use std::alloc::Global;
 
@@ -18,8 +18,8 @@ const FORECAST: u64 = 50;
 
 pub(crate) const LIMITS: Limits = Limits {
     stale_after: 150,
-    entries: 200_000,
-    publications: 1_000,
+    entries: MOST_ENTRIES,
+    publications: MOST_PUBLICATIONS,
     unit: 1,
 };
 

@@ -1,5 +1,6 @@
-//! What the scripts of bench/ time on one thread, and scenarios on several. The first word chooses what is run, the others
-//! are its loads; each line that it prints has the nanoseconds that were taken, and a number that does not depend on them.
+//! What the scripts of bench/ time on one thread, and scenarios on several. The first word chooses what is run, the
+//! others are its loads; each line that it prints has the nanoseconds that were taken, and a number that does not depend
+//! on them.
 //!
 //!     bp_bench restarts ROUNDS          a cold solve, then so many bookings, changes of a rate and quotes of groups
 //!     bp_bench scenarios LISTS          so many lists of five changes

@@ -1,5 +1,5 @@
-//! Restarts beside a cold solve: a booking is one room less on each night of a stay and one less in its forecast, with the
-//! prices settled; a change is another rate of one stay; a group is ten rooms on the nights of a stay.
+//! Restarts beside a cold solve: a booking is one room less on each night of a stay and one less in its forecast, with
+//! the prices settled; a change is another rate of one stay; a group is ten rooms on the nights of a stay.
 ghost use Rattle.std.specs.Prelude.{◌≡◌, ◌<◌, length, IsTrue};
 ghost use Rattle.bp_types.specs.Spans.{IsSpanWithin};
 ghost use Rattle.bp_types.specs.Changes.{HasUnits};

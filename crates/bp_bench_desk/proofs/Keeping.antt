@@ -10,15 +10,24 @@ use Rattle.bp_desk.specs.Calling.{IsCalled}
 use Rattle.bp_bench_desk.specs.Passing.{IsPassOf}
 
 -- a pass that has the same desk and house
-keeps : (desk : TableId) (house : Inn) (old new : PassState) → IsPassOf desk house old → new.desk ≡ old.desk → new.house ≡ old.house → IsPassOf desk house new
+keeps : (desk : TableId) (house : Inn) (old new : PassState) →
+    IsPassOf desk house old → new.desk ≡ old.desk → new.house ≡ old.house → IsPassOf desk house new
 keeps desk house old new at same home = record { desk_is = same ∙ at.desk_is; house_is = home ∙ at.house_is }
 
-pub by_call : (desk : TableId) (house : Inn) (old new : PassState) (call : Call) (answer : Answer) → IsPassOf desk house old → IsCalled old new call answer → IsPassOf desk house new
-by_call desk house old new call answer at c = keeps desk house old new at (ap (λ (p : PassState). p.desk) c.pass) (ap (λ (p : PassState). p.house) c.pass)
+-- one that made a call
+pub by_call : (desk : TableId) (house : Inn) (old new : PassState) (call : Call) (answer : Answer) →
+    IsPassOf desk house old → IsCalled old new call answer → IsPassOf desk house new
+by_call desk house old new call answer at c =
+    keeps desk house old new at (ap (λ (p : PassState). p.desk) c.pass) (ap (λ (p : PassState). p.house) c.pass)
 
-pub by_enrolment : (desk : TableId) (house : Inn) (opener new : PassState) (n : ℕ) (answer : Answer) → IsPassOf desk house opener → IsCalled (newcomer opener n) new Enrol answer → IsPassOf desk house new
-by_enrolment desk house opener new n answer at c = by_call desk house (newcomer opener n) new Enrol answer (record { desk_is = at.desk_is; house_is = at.house_is }) c
+-- a newcomer's, that was enrolled
+pub by_enrolment : (desk : TableId) (house : Inn) (opener new : PassState) (n : ℕ) (answer : Answer) →
+    IsPassOf desk house opener → IsCalled (newcomer opener n) new Enrol answer → IsPassOf desk house new
+by_enrolment desk house opener new n answer at c =
+    by_call desk house (newcomer opener n) new Enrol answer (record { desk_is = at.desk_is; house_is = at.house_is }) c
 
 -- the opener, that handed a number out
-pub by_handing : (desk : TableId) (house : Inn) (old new : PassState) (rest : List ℕ) → IsPassOf desk house old → new ≡ record old { free = rest } → IsPassOf desk house new
-by_handing desk house old new rest at e = keeps desk house old new at (ap (λ (p : PassState). p.desk) e) (ap (λ (p : PassState). p.house) e)
+pub by_handing : (desk : TableId) (house : Inn) (old new : PassState) (rest : List ℕ) →
+    IsPassOf desk house old → new ≡ record old { free = rest } → IsPassOf desk house new
+by_handing desk house old new rest at e =
+    keeps desk house old new at (ap (λ (p : PassState). p.desk) e) (ap (λ (p : PassState). p.house) e)

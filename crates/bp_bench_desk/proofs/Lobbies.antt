@@ -19,15 +19,27 @@ pub opened_nights : (h : Inn) (c : Claim) → IsCertificateOf (opening h) c → 
 opened_nights h c is = sym (is.one_each ∙ length-map-range_with_len (units_left h) 0 (length h.rooms))
 
 -- a pass that has the same desk and house
-keeps : (desk : TableId) (house : Inn) (start : Program) (old new : PassState) (screen : Display) → IsLobby desk house start old screen → new.desk ≡ old.desk → new.house ≡ old.house → IsLobby desk house start new screen
-keeps desk house start old new screen at same home = record { at_desk = same ∙ at.at_desk; of_house = home ∙ at.of_house; starts = at.starts; nights = at.nights }
+keeps : (desk : TableId) (house : Inn) (start : Program) (old new : PassState) (screen : Display) →
+    IsLobby desk house start old screen → new.desk ≡ old.desk → new.house ≡ old.house → IsLobby desk house start new screen
+keeps desk house start old new screen at same home =
+    record { at_desk = same ∙ at.at_desk; of_house = home ∙ at.of_house; starts = at.starts; nights = at.nights }
 
-pub by_call : (desk : TableId) (house : Inn) (start : Program) (old new : PassState) (screen : Display) (call : Call) (answer : Answer) → IsLobby desk house start old screen → IsCalled old new call answer → IsLobby desk house start new screen
-by_call desk house start old new screen call answer at c = keeps desk house start old new screen at (ap (λ (p : PassState). p.desk) c.pass) (ap (λ (p : PassState). p.house) c.pass)
+-- one that made a call
+pub by_call : (desk : TableId) (house : Inn) (start : Program) (old new : PassState) (screen : Display) (call : Call) (answer : Answer) →
+    IsLobby desk house start old screen → IsCalled old new call answer → IsLobby desk house start new screen
+by_call desk house start old new screen call answer at c =
+    keeps desk house start old new screen at (ap (λ (p : PassState). p.desk) c.pass) (ap (λ (p : PassState). p.house) c.pass)
 
-pub by_reading : (desk : TableId) (house : Inn) (start : Program) (old new : PassState) (screen : Display) → IsLobby desk house start old screen → HasRead old new → IsLobby desk house start new screen
-by_reading desk house start old new screen at r = keeps desk house start old new screen at (ap (λ (p : PassState). p.desk) r.pass) (ap (λ (p : PassState). p.house) r.pass)
+-- one that looked at the length
+pub by_reading : (desk : TableId) (house : Inn) (start : Program) (old new : PassState) (screen : Display) →
+    IsLobby desk house start old screen → HasRead old new → IsLobby desk house start new screen
+by_reading desk house start old new screen at r =
+    keeps desk house start old new screen at (ap (λ (p : PassState). p.desk) r.pass) (ap (λ (p : PassState). p.house) r.pass)
 
-pub by_submission : (desk : TableId) (house : Inn) (start : Program) (old new : PassState) (screen : Display) (position : ℕ) (certificate : Claim) (result : Result ℕ SubmitError) → IsLobby desk house start old screen → IsSubmitted old new position certificate result → IsLobby desk house start new screen
+-- one that submitted a certificate
+pub by_submission : (desk : TableId) (house : Inn) (start : Program) (old new : PassState) (screen : Display) (position : ℕ)
+    (certificate : Claim) (result : Result ℕ SubmitError) →
+    IsLobby desk house start old screen → IsSubmitted old new position certificate result → IsLobby desk house start new screen
 by_submission desk house start old new screen position certificate result at s =
-    keeps desk house start old new screen at (ap (λ (p : PassState). p.desk) s.gone_on.pass) (ap (λ (p : PassState). p.house) s.gone_on.pass)
+    keeps desk house start old new screen at
+    (ap (λ (p : PassState). p.desk) s.gone_on.pass) (ap (λ (p : PassState). p.house) s.gone_on.pass)

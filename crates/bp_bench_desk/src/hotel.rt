@@ -5,6 +5,7 @@ ghost use Rattle.bp_types.specs.Claim.{IsCertificateOf};
 
 use bp_board::Board;
 use bp_cert::{Verdict, check};
+use bp_types::limits::{MOST_ENTRIES, MOST_PUBLICATIONS};
 use bp_types::{Certificate, House, Instance, Limits, Memory, Span, Stay};
 use std::alloc::Global;
 use std::sync::Arc;
@@ -61,7 +62,7 @@ fn value_of(stays: &[Stay]) -> u128 {
 }
 
 /// A hotel of 400 nights and 4,000 stays, with a room for every guest.
-pub(crate) fn wide_hotel(alloc: Global, stale_after: u32) -> Result<Hotel, Memory> {
+pub(crate) fn wide_hotel(alloc: Global, stale_after: u64) -> Result<Hotel, Memory> {
     let stays = many_stays(alloc)?;
     let value = value_of(&stays);
     Ok(Hotel {
@@ -69,9 +70,9 @@ pub(crate) fn wide_hotel(alloc: Global, stale_after: u32) -> Result<Hotel, Memor
         sold: vec![in alloc; 0; NIGHTS as usize]?,
         stays,
         limits: Limits {
-            stale_after: u64::from(stale_after),
-            entries: 200_000,
-            publications: 1_000,
+            stale_after,
+            entries: MOST_ENTRIES,
+            publications: MOST_PUBLICATIONS,
             unit: 1,
         },
         value,
@@ -103,7 +104,7 @@ pub(crate) fn narrow_hotel(alloc: Global) -> Result<Hotel, Memory> {
         limits: Limits {
             stale_after: 10,
             entries: 2_000,
-            publications: 1_000,
+            publications: MOST_PUBLICATIONS,
             unit: 1,
         },
         value: 1,
@@ -114,7 +115,12 @@ pub(crate) fn narrow_hotel(alloc: Global) -> Result<Hotel, Memory> {
 
 /// A hotel's house. Two of them are the same.
 pub(crate) fn house(alloc: Global, hotel: &Hotel) -> Result<House, Fail>
-    ensures { IfOk result (λ h. h ≡ record { rooms = hotel.now.rooms.items; sold = hotel.now.sold.items; stays = hotel.now.stays.items; limits = hotel.now.limits }) }
+    ensures { IfOk result (λ h. h ≡ record {
+      rooms = hotel.now.rooms.items;
+      sold = hotel.now.sold.items;
+      stays = hotel.now.stays.items;
+      limits = hotel.now.limits;
+    }) }
 {
     let rooms = Vec::from_slice(alloc, &hotel.rooms)?;
     let sold = Vec::from_slice(alloc, &hotel.sold)?;
@@ -131,7 +137,8 @@ pub(crate) fn opening_board(
     start: &Instance,
     hotel: &Hotel,
 ) -> Result<Arc<Board>, Fail>
-    ensures { IfOk result (λ b. ((arc_value b).position ≡ 0) × IsCertificateOf start.now (arc_value b).certificate) }
+    ensures { IfOk result (λ b. ((arc_value b).position ≡ 0) ×
+        IsCertificateOf start.now (arc_value b).certificate) }
 {
     let certificate = Certificate {
         value: hotel.value,

@@ -1,6 +1,6 @@
-//! What the scripts of bench/ time where threads wait for one another: the history lock, a shared desk, and displays. The
-//! first word chooses what is run, the others are its loads; each line that it prints has what was measured, and a number
-//! that does not depend on time or on the order of the threads.
+//! What the scripts of bench/ time where threads wait for one another: the history lock, a shared desk, and displays.
+//! The first word chooses what is run, the others are its loads; each line that it prints has what was measured, and a
+//! number that does not depend on time or on the order of the threads.
 //!
 //!     bp_bench_desk turns THREADS ENTRIES                 so many entries under one history lock
 //!     bp_bench_desk shared THREADS CALLS DESKS STALE      so many bookings at each of so many desks

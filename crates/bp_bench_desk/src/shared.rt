@@ -8,14 +8,15 @@ use crate::measured::{Measured, one};
 use bp_core::Book;
 use bp_desk::{BookReply, Desk, Pass};
 use bp_types::House;
+use bp_types::limits::MOST_STALE_AFTER;
 use std::alloc::Global;
 use std::sync::Wait;
 use std::test::Fail;
 use std::thread::{Threads, for_each_mut};
 use std::time::{Clock, Instant};
 
-/// The loads: each desk is called so often, in equal parts by the threads. After so many changes without a new vector all
-/// bookings are refused as Behind.
+/// The loads: each desk is called so often, in equal parts by the threads. After so many changes without a new vector
+/// all bookings are refused as Behind.
 #[derive(Clone, Copy, Drop)]
 pub(crate) struct Bookings {
     pub(crate) threads: u32,
@@ -195,7 +196,7 @@ pub(crate) fn run<R: Threads + Wait + Clock + Sync>(
     let Some(calls) = bookings.calls.checked_div(bookings.threads) else {
         return Err(Fail::new("some threads"));
     };
-    let hotel = wide_hotel(alloc, bookings.stale_after)?;
+    let hotel = wide_hotel(alloc, u64::from(bookings.stale_after))?;
     let mut taken: u128 = 0;
     let mut accepted: u64 = 0;
     for _ in 0..bookings.desks {
@@ -218,7 +219,7 @@ fn open_book(alloc: Global, hotel: &Hotel) -> Result<u64, Fail> {
 
 /// Opens a desk of the greatest limits, or its book alone: how little memory is enough for it tells what it takes.
 pub(crate) fn open(alloc: Global, with_desk: bool) -> Result<Vec<Measured>, Fail> {
-    let hotel = wide_hotel(alloc, 100_000)?;
+    let hotel = wide_hotel(alloc, MOST_STALE_AFTER)?;
     let entries = if with_desk {
         let _opened = open_desk(alloc, &hotel)?;
         1

@@ -125,7 +125,7 @@ pub(crate) fn run<R: Clock + Threads + Wait + Sync>(
     vectors: u32,
 ) -> Result<Vec<Measured>, Fail> {
     if threads < 1 || threads > MOST_VIEWS {
-        return Err(Fail::new("1 to 16 threads"));
+        return Err(Fail::new(format_args!("1 to {MOST_VIEWS} threads")));
     }
     let (mut lobby, views) = Lobby::open(rt, alloc, &narrow_hotel(alloc)?, threads)?;
     let mut viewers = seated(alloc, views)?;
@@ -136,7 +136,7 @@ pub(crate) fn run<R: Clock + Threads + Wait + Sync>(
             for_each_mut(
                 rt,
                 &mut viewers,
-                16,
+                MOST_VIEWS as usize,
                 &|_, viewer: &mut Viewer| viewer.rate = rate_of(
                     rt,
                     &mut viewer.view,

@@ -1,8 +1,11 @@
 //! Turns at one history lock: each thread adds pairs to one list, a pair a turn, until the list is full.
-ghost use Rattle.std.specs.Prelude.{◌≡◌, ◌≤◌, false, All, IfOk};
+ghost use Rattle.std.specs.Prelude.{◌≤◌, All, IfOk};
+ghost use Rattle.bp_types.specs.declared.limits.TheConstants.{CALLERS};
+ghost use Rattle.bp_bench_desk.specs.Turning.{IsReady};
 
 use crate::measured::Measured;
 use bp_turn::{Memory, Story, Turn, TurnSeat};
+use bp_types::limits::CALLERS;
 use std::alloc::Global;
 use std::sync::Wait;
 use std::test::Fail;
@@ -40,7 +43,7 @@ struct Worker {
 
 /// Adds entries until there are enough.
 fn work<R: Wait>(rt: &R, turn: &Turn<Log>, worker: &mut Worker, enough: usize)
-    requires { (worker.old.seat.lock ≡ turn.now) × (worker.old.seat.has_turn ≡ false) × (worker.old.seat.number ≡ worker.old.caller) }
+    requires { IsReady turn.now worker.old.caller worker.old.seat }
 {
     for number in 0..u32::MAX {
         let mut log = turn.take(rt, &mut worker.seat);
@@ -59,7 +62,7 @@ fn work_all<R: Threads + Wait + Sync>(
     workers: &mut [Worker],
     enough: usize,
 )
-    requires { All (λ w. (w.seat.lock ≡ turn.now) × (w.seat.has_turn ≡ false) × (w.seat.number ≡ w.caller)) workers.old }
+    requires { All (λ w. IsReady turn.now w.caller w.seat) workers.old }
 {
     let threads = workers.len().max(1);
     for_each_mut(
@@ -72,8 +75,8 @@ fn work_all<R: Threads + Wait + Sync>(
 
 /// A lock over an empty log, and the workers with the numbers below `threads`.
 fn hire(alloc: Global, threads: u32) -> Result<(Turn<Log>, Vec<Worker>), Memory>
-    requires { threads ≤ 64 }
-    ensures { IfOk result (λ r. All (λ w. (w.seat.lock ≡ r.0) × (w.seat.has_turn ≡ false) × (w.seat.number ≡ w.caller)) r.1.items) }
+    requires { threads ≤ CALLERS }
+    ensures { IfOk result (λ r. All (λ w. IsReady r.0 w.caller w.seat) r.1.items) }
 {
     let pairs = Vec::new(alloc);
     let (turn, mut first) = Turn::new(alloc, Log { pairs })?;
@@ -116,8 +119,8 @@ pub(crate) fn run<R: Clock + Threads + Wait + Sync>(
     threads: u32,
     entries: u32,
 ) -> Result<Vec<Measured>, Fail> {
-    if threads < 1 || threads > 64 {
-        return Err(Fail::new("1 to 64 threads"));
+    if threads < 1 || threads > CALLERS as u32 {
+        return Err(Fail::new(format_args!("1 to {CALLERS} threads")));
     }
     let (turn, mut workers) = hire(alloc, threads)?;
     let start = Instant::now(rt)?;

@@ -9,7 +9,7 @@ use Rattle.bp_cli.specs.Words.{Word}
 use Rattle.bp_cli.specs.Tasks.{Task, Asks, check, solve, group, judge, scenarios, sheet}
 use Rattle.bp_cli.specs.Laws.{TasksAreUnique}
 use Rattle.bp_run.specs.Served.{AreServed}
-use Rattle.bp_run.specs.Stages.{Plan, HoldsFiles}
+use Rattle.bp_inputs.specs.Stages.{Plan, HoldsFiles}
 use Rattle.bp_run.specs.Commands.{command_of}
 use Rattle.bp_run.specs.Ends.{HoldsAll}
 use Rattle.bp_c.specs.Calls.{one_file, two_files}

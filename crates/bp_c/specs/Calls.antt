@@ -7,7 +7,7 @@ use Rattle.bp_edges.specs.Schedule.{IsOver}
 use Rattle.bp_cli.specs.Words.{Word}
 use Rattle.bp_cli.specs.Tasks.{Task, Asks}
 use Rattle.bp_run.specs.Served.{AreServed}
-use Rattle.bp_run.specs.Fetches.{Shelved}
+use Rattle.bp_inputs.specs.Fetches.{Shelved}
 use Rattle.bp_run.specs.Ends.{Outcome}
 use Rattle.bp_c.specs.declared.buffer.TheConstants.{NO_MEMORY, TOO_SHORT}
 use Rattle.bp_c.specs.declared.group.TheConstants.{NUMBERS}

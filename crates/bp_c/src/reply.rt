@@ -5,7 +5,7 @@ ghost use Rattle.bp_cli.specs.Words.{Word};
 ghost use Rattle.bp_cli.specs.Asked.{asked};
 ghost use Rattle.bp_run.specs.Served.{IsPlainTask};
 ghost use Rattle.bp_run.specs.Demo.{HasDemoNumbers};
-ghost use Rattle.bp_run.specs.Stages.{HoldsFiles};
+ghost use Rattle.bp_inputs.specs.Stages.{HoldsFiles};
 ghost use Rattle.bp_run.specs.Commands.{command_of};
 ghost use Rattle.bp_c.specs.Calls.{one_file, two_files, IsGivenByTask, IsGivenByNone, RepliesToTask, RepliesToNone};
 

@@ -1,3 +1,4 @@
+//! Each call against the answer of its command, and buffers that are too short.
 use super::*;
 use std::test::Fail;
 

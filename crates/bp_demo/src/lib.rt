@@ -1,8 +1,7 @@
 //! A demo: a large hotel made of four numbers, whose stays are each booked once, in order.
 //!
 //! What the bookings come to can be asked of any house. A demo is that of the house that four numbers make, and its
-//! text
-//! is the same at each call.
+//! text is the same at each call.
 //!
 //!     let text = demo(alloc, 7, 120, 50, 800)?;            // seed, nights, rooms on each night, stays
 //!

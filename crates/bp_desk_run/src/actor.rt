@@ -1,3 +1,4 @@
+//! One caller of a run: a session with its commands, or a worker with its optimiser.
 ghost use Rattle.std.specs.Prelude.{◌≡◌, ◌≢◌, ◌≤◌, ◌<◌, ℕ};
 ghost use Rattle.bp_optimise.specs.Following.{GoesWith};
 ghost use Rattle.bp_optimise.specs.Sessions.{AreInRange, IsSession};

@@ -1,3 +1,4 @@
+//! The callers of a run, from their enrolment to the closed book.
 ghost use Rattle.std.specs.Prelude.{◌≡◌, ◌+◌, ◌-◌, ◌<◌, ◌≤◌, ◌&&◌, ℕ, List, [], length, slice_index_or, IfOk};
 ghost use Rattle.bp_types.specs.House.{opening};
 ghost use Rattle.bp_types.specs.declared.command.Command.{Command};

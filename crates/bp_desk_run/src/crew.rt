@@ -161,8 +161,8 @@ pub fn meet_all(alloc: Global, desk: &Desk, opener: &mut Pass, actors: &mut [Act
 }
 
 /// Runs all actors beside one another, each in a thread of its own where one can be made. Where none can, the places
-/// are visited from the last to the
-/// first: so sessions stand last and workers first, since a worker waits for the sessions.
+/// are visited from the last to the first: so sessions stand last and workers first, since a worker waits for the
+/// sessions.
 pub fn run_all<R: Threads + Wait + Sync, G: Gate>(
     rt: &R,
     alloc: Global,

@@ -1,3 +1,4 @@
+//! Runs of a desk, whole and cut.
 use crate::runs::run;
 use bp_core::{Act, Book, Reply};
 use bp_desk_run::Ran;

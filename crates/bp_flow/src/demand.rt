@@ -1,3 +1,4 @@
+//! A stay's forecast and its rate.
 ghost use Rattle.std.specs.Prelude.{◌≡◌, ℕ, ◌+◌, ◌-◌, ◌<◌, ◌≤◌, false, length, slice_index};
 ghost use Rattle.bp_types.specs.declared.limits.TheConstants.{MOST_FORECAST};
 ghost use Rattle.bp_types.specs.declared.change.Change.TheVariants.{Rooms, Demand};

@@ -1,3 +1,4 @@
+//! What a network simplex found, taken over as a flow.
 ghost use Rattle.std.specs.Prelude.{◌≡◌, ℕ, ◌+◌, ◌^◌, ◌<◌, ◌≤◌, length, slice_index, IfOk, All};
 ghost use Rattle.bp_types.specs.declared.limits.TheConstants.{MOST_NODES};
 ghost use Rattle.bp_residual.specs.Network.{Priced, arcs};

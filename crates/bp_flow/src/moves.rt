@@ -1,3 +1,4 @@
+//! Units moved from one node to another by successive shortest paths.
 ghost use Rattle.std.specs.Prelude.{◌≡◌, ℕ, ◌+◌, ◌-◌, ◌*◌, ◌^◌, ◌<◌, ◌≤◌, length, slice_index, min};
 ghost use Rattle.bp_residual.specs.Network.{Priced, IsSlack, IsPriced, IsBalanced, HasImbalance, nodes};
 ghost use Rattle.bp_paths.specs.Paths.{far, Serves};

@@ -1,3 +1,4 @@
+//! From a flow that carries rooms of its own to one that carries those of the instance.
 ghost use Rattle.std.specs.Prelude.{◌≡◌, ◌+◌, ◌*◌, ◌<◌, ◌≤◌, length};
 ghost use Rattle.bp_types.specs.declared.limits.TheConstants.{MOST_NIGHTS, MOST_UNITS};
 ghost use Rattle.bp_types.specs.Sums.{sum_below};

@@ -1,3 +1,4 @@
+//! More or fewer rooms on the nights of a span.
 ghost use Rattle.std.specs.Prelude.{◌≡◌, ℕ, ◌<◌, ◌≤◌, true, false, length, slice_index};
 ghost use Rattle.bp_types.specs.declared.limits.TheConstants.{MOST_UNITS};
 ghost use Rattle.bp_types.specs.declared.change.Change.TheVariants.{Rooms};

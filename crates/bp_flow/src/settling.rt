@@ -1,3 +1,4 @@
+//! The least optimal prices.
 ghost use Rattle.std.specs.Prelude.{◌≡◌, ℕ, ◌+◌, ◌-◌, ◌<◌, ◌≤◌, length, slice_index};
 ghost use Rattle.bp_residual.specs.Network.{Priced, IsSlack, IsBalanced, nodes};
 ghost use Rattle.bp_paths.specs.Paths.{far};

@@ -1,3 +1,4 @@
+//! Nights in a row that lack rooms, or have too many.
 ghost use Rattle.std.specs.Prelude.{◌≡◌, ℕ, ◌<◌, ◌≤◌, length, slice_index};
 ghost use Rattle.bp_types.specs.declared.change.Change.TheVariants.{Rooms};
 ghost use Rattle.bp_types.specs.Changes.{Fits};

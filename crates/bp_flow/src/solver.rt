@@ -1,3 +1,4 @@
+//! The solver: a flow, the memory of its searches, and what it tells.
 ghost use Rattle.std.specs.Prelude.{
   ◌≡◌,
   ◌≢◌,

@@ -1,3 +1,4 @@
+//! The flow that a cold solve begins with.
 ghost use Rattle.std.specs.Prelude.{◌≡◌, ℕ, ◌+◌, ◌<◌, ◌≤◌, length, slice_index, IfOk, IsTrue};
 ghost use Rattle.bp_types.specs.declared.change.Change.TheVariants.{Rooms};
 ghost use Rattle.bp_types.specs.declared.limits.TheConstants.{MOST_UNITS};

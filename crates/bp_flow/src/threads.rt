@@ -1,3 +1,4 @@
+//! That a solver crosses threads.
 use crate::Solver;
 
 fn moves<T: Send>() {}

@@ -1,3 +1,4 @@
+//! Units sent along the kept ways of the nodes, hop by hop.
 ghost use Rattle.std.specs.Prelude.{◌≡◌, ℕ, ◌+◌, ◌^◌, ◌<◌, ◌≤◌, length, slice_index, IsTrue};
 ghost use Rattle.bp_residual.specs.Network.{Priced, IsSlack, IsBalanced, HasImbalance, nodes};
 ghost use Rattle.bp_flow.specs.Settled.{IsSettledFlow};

@@ -1,3 +1,4 @@
+//! Why there is no quote.
 ghost use Rattle.std.specs.Prelude.{◌≡◌};
 ghost use Rattle.bp_group.specs.declared.error.QuoteError.TheVariants.{Memory as NoMemory};
 

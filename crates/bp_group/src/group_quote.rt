@@ -1,3 +1,4 @@
+//! The quote of a group, with the certificates that show it.
 ghost use Rattle.std.specs.Prelude.{◌≡◌};
 
 use bp_types::{Certificate, Quoted, Span};

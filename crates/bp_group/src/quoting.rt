@@ -1,3 +1,4 @@
+//! The displacement of a group, as the difference of two optima.
 ghost use Rattle.std.specs.Prelude.{◌≡◌, ◌+◌, None, length, slice_index, IfOk, IfErr, OnOk};
 ghost use Rattle.bp_types.specs.Claim.{IsLeastCertificate};
 ghost use Rattle.bp_types.specs.Spans.{IsSpanWithin, first_short};

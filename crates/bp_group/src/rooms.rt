@@ -1,3 +1,4 @@
+//! The first night that has too few units for a group.
 ghost use Rattle.std.specs.Prelude.{◌≡◌, length, slice_index};
 ghost use Rattle.bp_types.specs.Spans.{IsSpanWithin, first_short};
 

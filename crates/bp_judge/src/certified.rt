@@ -1,3 +1,4 @@
+//! A vector's certificate, checked.
 ghost use Rattle.std.specs.Prelude.{◌≡◌, IfOk};
 ghost use Rattle.bp_judge.specs.Certified.{IsBoardFor};
 

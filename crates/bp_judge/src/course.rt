@@ -1,3 +1,4 @@
+//! The instance along a history, a few changes at a time.
 ghost use Rattle.std.specs.Prelude.{◌≡◌, ◌<◌, ◌≤◌, length, vec_capacity, IfOk};
 ghost use Rattle.bp_types.specs.Changes.{Leads};
 ghost use Rattle.bp_warm.specs.Turns.{units_moved_by_all};

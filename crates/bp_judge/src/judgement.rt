@@ -1,3 +1,4 @@
+//! What a judge says: legal, or the first place and the first rule that is broken there.
 use bp_core::Book;
 
 /// Why a line may not stand at its place, in the order in which the rules are asked.

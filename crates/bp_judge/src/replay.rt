@@ -1,3 +1,4 @@
+//! The judge: a journal written anew, line by line.
 ghost use Rattle.std.specs.Prelude.{◌≡◌, ◌≢◌, ◌∷◌, [], false, None, IfOk, IsTrue, MatchBool, MatchOption, MatchResult};
 ghost use Rattle.bp_types.specs.declared.command.Command.TheVariants.{Group};
 ghost use Rattle.bp_flow.specs.Solvers.{CountsUpTo};

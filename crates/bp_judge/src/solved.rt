@@ -1,3 +1,4 @@
+//! A solver along a history, carried on where few units moved.
 ghost use Rattle.std.specs.Prelude.{◌≡◌, ◌+◌, ◌≤◌, length, IfOk, MatchBool};
 ghost use Rattle.bp_types.specs.Changes.{Leads};
 ghost use Rattle.bp_warm.specs.Turns.{units_moved_by_all};

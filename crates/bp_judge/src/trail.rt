@@ -1,3 +1,4 @@
+//! What a judge carries along a history.
 ghost use Rattle.std.specs.Prelude.{◌≡◌, ◌+◌, ◌≤◌, Some, None, length, IfOk};
 ghost use Rattle.bp_types.specs.declared.limits.TheConstants.{MOST_GROUP_ROOMS};
 ghost use Rattle.bp_types.specs.Spans.{IsSpanWithin, first_short};

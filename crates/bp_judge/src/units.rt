@@ -1,3 +1,4 @@
+//! How many units the changes of a history move.
 ghost use Rattle.std.specs.Prelude.{◌≡◌, ◌<◌, ◌≤◌, ◌*◌, ◌^◌, length};
 ghost use Rattle.bp_types.specs.Changes.{Fits, FitInTurn, changed_by_all};
 ghost use Rattle.bp_warm.specs.Turns.{units_moved, units_moved_by_all};

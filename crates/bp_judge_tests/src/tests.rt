@@ -1,3 +1,4 @@
+//! Journals that are legal, and journals that break one rule each.
 ghost use Rattle.std.specs.Prelude.{◌≡◌, ◌<◌, is_some, IsTrue};
 ghost use Rattle.bp_core.specs.Lines.{published_position};
 

@@ -1,3 +1,4 @@
+//! The searches, and the scratch that they share.
 ghost use Rattle.std.specs.Prelude.{
   ◌≡◌,
   ℕ,
@@ -18,7 +19,7 @@ ghost use Rattle.std.specs.Prelude.{
 };
 ghost use Rattle.bp_residual.specs.Network.{Priced, IsSlack, IsPriced, Admits, step_of, steps_of, arcs, nodes};
 ghost use Rattle.bp_paths.specs.Labels.{AreLabelsSoFar, IsTracedPath};
-ghost use Rattle.bp_paths.specs.Paths.{far, ScratchView, Serves, AreDistancesTo, distance_of, least_room, IsReached};
+ghost use Rattle.bp_paths.specs.Paths.{far, ScratchView, Serves, AreDistancesTo, distance_of, least_room, IsFound, IsReached};
 
 use crate::labels::{Labels, Notes};
 use crate::mended::mended;
@@ -224,10 +225,42 @@ fn path_to(flow: &Flow, to: u32, labels: &Labels, slots: &mut [Hop]) -> (usize, 
     (start, bottleneck(flow, &slots[start..]))
 }
 
-/// Finds a shortest residual path by reduced cost: Dijkstra's method under potentials, which ends as soon as the target
-/// is closed. The distances are exact below the target's, and no others are less. Nodes that are as near as the target
-/// stay open, so where many are, as under equal rates, most of the network is never looked at. In the worst case its
-/// time grows with the square of the nodes, and with the arcs. What an earlier search left in the scratch is gone.
+/// Finds a shortest residual path by reduced cost, and all distances: Dijkstra's method under potentials. In the worst
+/// case its time grows with the square of the nodes, and with the arcs. What an earlier search left in the scratch is
+/// gone.
+pub fn search<L: Ledger>(
+    flow: &Flow,
+    from: u32,
+    to: u32,
+    scratch: &mut Scratch,
+    steps: &mut Steps<L>,
+) -> Found
+    requires slack { IsSlack flow.now.flow (slice_index flow.now.potentials) }
+    requires from { from < nodes flow.now }
+    requires to { to < nodes flow.now }
+    requires size { length scratch.old.distances ≡ nodes flow.now }
+    ensures found { IsFound flow.now from to scratch.new result }
+    ensures size { length scratch.new.distances ≡ nodes flow.now }
+    ensures counted { steps.new ≡ steps.old + 1 }
+    ensures served { Serves scratch.old.served scratch.new.served 1 }
+{
+    steps.tick();
+    scratch.served = one_more(scratch.served);
+    let _nights = flow.nights();
+    scratch.labels.begin(flow, false, from);
+    scratch.labels.close_all(flow, false);
+    scratch.start = scratch.slots.len();
+    if scratch.labels.kept[to as usize] == u128::MAX {
+        return Found::Unreached;
+    }
+    let (start, units) = path_to(flow, to, &scratch.labels, &mut scratch.slots);
+    scratch.start = start;
+    Found::Reached { units }
+}
+
+/// Finds a shortest residual path by the same method, and ends as soon as the target is closed. The distances are exact
+/// below the target's, and no others are less. Nodes that are as near as the target stay open, so where many are, as
+/// under equal rates, most of the network is never looked at. What an earlier search left in the scratch is gone.
 pub fn reach<L: Ledger>(
     flow: &Flow,
     from: u32,

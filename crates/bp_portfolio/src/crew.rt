@@ -103,8 +103,7 @@ fn runs_of(alloc: Global, sites: Vec<DeskSite>) -> Result<Vec<Ran>, Memory>
 /// Runs the desks of several hotels beside one another, each with so many optimisers, to their closed books.
 ///
 /// Each hotel's book is right for its own house, sessions and workers; nothing of another hotel stands in what is said
-/// of
-/// it. A caller of a hotel arrives at the gate with its number and `CALLERS` times the hotel's index, from 0, more.
+/// of it. A caller of a hotel arrives at the gate with its number and `CALLERS` times the hotel's index, from 0, more.
 pub fn run_desks<R: Wait + Threads + Sync, G: Gate>(
     rt: &R,
     alloc: Global,

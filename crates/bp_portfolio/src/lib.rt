@@ -9,9 +9,8 @@
 //!     end
 //!
 //! `read_list` gives the names. A `Staged` is a hotel's house with what its sessions ask, and `run_desks` runs the
-//! desks
-//! of several hotels beside one another. Nothing is shared between them: what is said of each is said of its own house,
-//! script and workers alone. `run_all` does the same for other sites, of whatever kind.
+//! desks of several hotels beside one another. Nothing is shared between them: what is said of each is said of its own
+//! house, script and workers alone. `run_all` does the same for other sites, of whatever kind.
 //!
 //! A list of eight hotels.
 //!

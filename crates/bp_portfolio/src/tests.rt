@@ -1,3 +1,4 @@
+//! Lists that are read and lists that are refused.
 use super::*;
 use bp_text::TextError;
 use std::alloc::{AllocError, Global};

@@ -1,3 +1,4 @@
+//! Reports of histories that are worked out by hand.
 ghost use Rattle.std.specs.Prelude.{◌≡◌, ◌<◌, is_some, IsTrue};
 ghost use Rattle.bp_core.specs.Lines.{published_position};
 

@@ -5,15 +5,15 @@ use Rattle.bp_edges.specs.Held.{Files}
 use Rattle.bp_cli.specs.Words.{Word}
 use Rattle.bp_cli.specs.Tasks.{Task}
 use Rattle.bp_run.specs.Statuses.{status_number}
-use Rattle.bp_run.specs.Stages.{Stage, Plan, done, ask, IsRead, IsReadAs, Gives, ComesAt, HoldsFiles, AreGood, IsReadOneWay, AreReadOneWay}
-use Rattle.bp_run.specs.Fetches.{Fetches, IsRefusedFor}
+use Rattle.bp_inputs.specs.Stages.{Stage, Plan, done, ask, IsRead, IsReadAs, Gives, ComesAt, HoldsFiles, AreGood, IsReadOneWay, AreReadOneWay}
+use Rattle.bp_inputs.specs.Fetches.{Fetches, IsRefusedFor}
 use Rattle.bp_run.specs.Command.{Command}
 use Rattle.bp_run.specs.Commands.{command_of, answer_status}
 use Rattle.bp_run.specs.Lines.{end_status}
 use Rattle.bp_run.specs.Ends.{HasEnd, IsComplete, HoldsAll}
 use Rattle.bp_run.specs.declared.status.Status.TheVariants as status
-use Rattle.bp_run.specs.declared.end.Cause.{Cause}
-use Rattle.bp_run.specs.declared.end.Cause.TheVariants.{TooLong, Reader}
+use Rattle.bp_inputs.specs.declared.cause.Cause.{Cause}
+use Rattle.bp_inputs.specs.declared.cause.Cause.TheVariants.{TooLong, Reader}
 use Rattle.bp_run.specs.declared.end.Answer.{Answer}
 use Rattle.bp_run.specs.declared.end.End.{End}
 use Rattle.bp_run.specs.declared.end.End.TheVariants.{NotPlain, Fault, Refused, Answered}

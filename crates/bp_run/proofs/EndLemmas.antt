@@ -47,8 +47,8 @@ use Rattle.bp_run.specs.Served.{IsPlainTask, IsDesk, AreScenarios, AreServed, Na
 use Rattle.bp_run.specs.declared.outcome.PortfolioLine.{PortfolioLine}
 use Rattle.bp_run.specs.Portfolio.{portfolio_command}
 use Rattle.bp_run.specs.Statuses.{status_number}
-use Rattle.bp_run.specs.Fetches.{Fetches}
-use Rattle.bp_run.specs.Stops.{Follows}
+use Rattle.bp_inputs.specs.Fetches.{Fetches}
+use Rattle.bp_inputs.specs.Stops.{Follows}
 use Rattle.bp_run.specs.Command.{Command, Brings, IsStopped, IsAnswered, IsAnswerOf}
 use Rattle.bp_run.specs.Desk.{desk_command}
 use Rattle.bp_run.specs.Scenarios.{scenarios_command}
@@ -58,7 +58,7 @@ use Rattle.bp_run.specs.Check.{verdict_status}
 use Rattle.bp_run.specs.Group.{group_status}
 use Rattle.bp_run.specs.Report.{report_command, report_status}
 use Rattle.bp_run.specs.Demo.{HasDemoNumbers}
-use Rattle.bp_run.specs.HotelPlan.{HotelNames, named}
+use Rattle.bp_inputs.specs.HotelPlan.{HotelNames, named}
 use Rattle.bp_run.specs.Judge.{ruling_status, ruling_command, replay_plan}
 use Rattle.bp_run.specs.Commands.{command_of, answer_status, IsPlainAnswer}
 use Rattle.bp_run.specs.Lines.{said, end_status}
@@ -77,8 +77,8 @@ use Rattle.bp_run.specs.Ends.{
   Serves,
   IsPortfolioOf,
 }
-use Rattle.bp_run.specs.declared.stop.Stop.{Stop}
-use Rattle.bp_run.specs.declared.stop.Stop.TheVariants as stops
+use Rattle.bp_inputs.specs.declared.stop.Stop.{Stop}
+use Rattle.bp_inputs.specs.declared.stop.Stop.TheVariants as stops
 use Rattle.bp_run.specs.declared.status.Status.{Status}
 use Rattle.bp_run.specs.declared.status.Status.TheVariants as status
 use Rattle.bp_run.specs.declared.end.Answer.{Answer}

@@ -5,13 +5,13 @@ use Rattle.bp_portfolio.specs.Lists.{FiveNames}
 use Rattle.bp_desk_run.specs.RightRun.{Staged}
 use Rattle.bp_portfolio.specs.Desks.{AreRightRuns}
 use Rattle.bp_cli.specs.Words.{Word}
-use Rattle.bp_run.specs.HotelPlan.{HotelNames}
+use Rattle.bp_inputs.specs.HotelPlan.{HotelNames}
 use Rattle.bp_run.specs.Desk.{desk_plan}
 use Rattle.bp_run.specs.Portfolio.{four_names, desks_plan}
-use Rattle.bp_run.specs.Fetches.{Shelved}
-use Rattle.bp_run.specs.Stops.{Follows}
-use Rattle.bp_run.specs.declared.stop.Stop.{Stop}
-use Rattle.bp_run.proofs.StageLemmas.{follows_both, follows_first, follows_made, leaves_same}
+use Rattle.bp_inputs.specs.Fetches.{Shelved}
+use Rattle.bp_inputs.specs.Stops.{Follows}
+use Rattle.bp_inputs.specs.declared.stop.Stop.{Stop}
+use Rattle.bp_inputs.proofs.StageLemmas.{follows_both, follows_first, follows_made, leaves_same}
 
 -- no hotel is left
 pub no_hotel_left : (at : Shelved) (front : List Staged) (names : List FiveNames) (first : ℕ) → length names ≡ 0

@@ -15,19 +15,19 @@ use Rattle.bp_journal.specs.Laws.{WrittenIsRead}
 use Rattle.bp_judge.specs.Judging.{NotBoth}
 use Rattle.bp_desk_run.specs.declared.callers.Ran.{Ran}
 use Rattle.bp_cli.specs.Words.{Word}
-use Rattle.bp_run.specs.Stages.{Stage, Plan, done, ask, followed_by, IsReadAs, Gives, AreReadOneWay}
-use Rattle.bp_run.specs.HotelPlan.{HotelNames, hotel_plan}
-use Rattle.bp_run.specs.HotelFiles.{hotel_file, stays_of_hotel, forecast_of_stays, bookings_of_hotel}
-use Rattle.bp_run.specs.JournalFiles.{journal_file}
+use Rattle.bp_inputs.specs.Stages.{Stage, Plan, done, ask, followed_by, IsReadAs, Gives, AreReadOneWay}
+use Rattle.bp_inputs.specs.HotelPlan.{HotelNames, hotel_plan}
+use Rattle.bp_inputs.specs.HotelFiles.{hotel_file, stays_of_hotel, forecast_of_stays, bookings_of_hotel}
+use Rattle.bp_inputs.specs.JournalFiles.{journal_file}
 use Rattle.bp_run.specs.Command.{IsAnswered}
 use Rattle.bp_run.specs.Judge.{Charge, IsRuling, ruling_command, journal_plan, replay_plan}
 use Rattle.bp_desk_run.specs.RightRun.{Staged}
 use Rattle.bp_run.specs.Desk.{script_plan, desk_command, run_said}
 use Rattle.bp_run.specs.Laws.{HoldOneHotel, RunsAreLegal}
-use Rattle.bp_run.specs.declared.house.OpenHotel.{OpenHotel}
+use Rattle.bp_inputs.specs.declared.house.OpenHotel.{OpenHotel}
 use Rattle.bp_run.specs.declared.commands.judge.Ruling.{Ruling}
 use Rattle.bp_run.specs.declared.commands.judge.Ruling.TheVariants.{Legal, Illegal}
-use Rattle.bp_run.proofs.HotelOneWay.{hotel_plan_one_way}
+use Rattle.bp_inputs.proofs.HotelOneWay.{hotel_plan_one_way}
 
 -- the laws of the crates below
 pub record LawsBelow : Type 0 where

@@ -25,25 +25,25 @@ use Rattle.bp_desk_run.specs.declared.callers.Ran.{Ran}
 use Rattle.bp_cli.specs.Words.{Word}
 use Rattle.bp_cli.specs.Tasks.{Task, check, solve, group, judge, desk, replay, report, demo, scenarios, sheet, portfolio}
 use Rattle.bp_run.specs.Statuses.{status_number}
-use Rattle.bp_run.specs.Stages.{Plan, done, ask, followed_by, IsReadOneWay, AreReadOneWay}
-use Rattle.bp_run.specs.TextFiles.{IsNoText, problem_file, certificate_file}
-use Rattle.bp_run.specs.ScenarioFiles.{scenarios_file}
-use Rattle.bp_run.specs.JournalFiles.{journal_file, IsNoJournal}
+use Rattle.bp_inputs.specs.Stages.{Plan, done, ask, followed_by, IsReadOneWay, AreReadOneWay}
+use Rattle.bp_inputs.specs.TextFiles.{IsNoText, problem_file, certificate_file}
+use Rattle.bp_inputs.specs.ScenarioFiles.{scenarios_file}
+use Rattle.bp_inputs.specs.JournalFiles.{journal_file, IsNoJournal}
 use Rattle.bp_desk_run.specs.RightRun.{Staged}
-use Rattle.bp_run.specs.ListFiles.{list_file, IsNoList}
+use Rattle.bp_inputs.specs.ListFiles.{list_file, IsNoList}
 use Rattle.bp_run.specs.Desk.{script_plan, desk_plan}
 use Rattle.bp_run.specs.Portfolio.{four_names, desks_plan}
 use Rattle.bp_run.specs.declared.status.Status.TheVariants as status
-use Rattle.bp_run.specs.HotelPlan.{HotelNames, hotel_plan}
+use Rattle.bp_inputs.specs.HotelPlan.{HotelNames, hotel_plan}
 use Rattle.bp_run.specs.Judge.{Charge, hotel_names, journal_plan}
 use Rattle.bp_run.specs.Report.{Told, told_plan}
 use Rattle.bp_run.specs.Group.{IsGroupAnswer, group_status, span_of}
 use Rattle.bp_run.specs.Commands.{command_of}
 use Rattle.bp_run.specs.declared.commands.group.GroupAnswer.{GroupAnswer}
 use Rattle.bp_run.specs.declared.commands.group.GroupAnswer.TheVariants.{Quoted, BadSpan, NoRoom}
-use Rattle.bp_run.specs.declared.end.FileError.{FileError}
-use Rattle.bp_run.specs.declared.end.FileError.TheVariants.{Text, Hotel, Table}
-use Rattle.bp_run.proofs.HotelOneWay.{hotel_plan_one_way, script_one_way}
+use Rattle.bp_inputs.specs.declared.cause.FileError.{FileError}
+use Rattle.bp_inputs.specs.declared.cause.FileError.TheVariants.{Text, Hotel, Table}
+use Rattle.bp_inputs.proofs.HotelOneWay.{hotel_plan_one_way, script_one_way}
 use Rattle.bp_run.proofs.CompleteLemmas.{IsSound}
 use Rattle.bp_run.proofs.EndLemmas.{verdict_number, ruling_number, report_number}
 

@@ -6,8 +6,8 @@ use Rattle.bp_cert.specs.Verdicts.{IsVerdict, SaysOptimum}
 use Rattle.bp_cert.specs.declared.verdict.Verdict.{Verdict}
 use Rattle.bp_cert.specs.declared.verdict.Verdict.TheVariants.{WrongLength, PriceTooGreat, AboveForecast, Overfull, Gap, Misvalued, Optimal}
 use Rattle.bp_cli.specs.Words.{Word}
-use Rattle.bp_run.specs.Stages.{done, ask}
-use Rattle.bp_run.specs.TextFiles.{problem_file, certificate_file}
+use Rattle.bp_inputs.specs.Stages.{done, ask}
+use Rattle.bp_inputs.specs.TextFiles.{problem_file, certificate_file}
 use Rattle.bp_run.specs.Command.{Command}
 use Rattle.bp_run.specs.Texts.{line}
 use Rattle.bp_run.specs.declared.status.Status.{Status}

@@ -1,10 +1,10 @@
 -- What a call has to know of a command: what it stands on and what it answers.
 use Rattle.std.specs.Prelude.{◌≡◌, ℕ, Option, Result, Ok, Err}
 use Rattle.bp_edges.specs.Held.{Files}
-use Rattle.bp_run.specs.Stages.{Plan, Gives}
-use Rattle.bp_run.specs.Fetches.{Fetches}
-use Rattle.bp_run.specs.Stops.{StopsIn, NeverFails}
-use Rattle.bp_run.specs.declared.stop.Stop.{Stop}
+use Rattle.bp_inputs.specs.Stages.{Plan, Gives}
+use Rattle.bp_inputs.specs.Fetches.{Fetches}
+use Rattle.bp_inputs.specs.Stops.{StopsIn, NeverFails}
+use Rattle.bp_inputs.specs.declared.stop.Stop.{Stop}
 use Rattle.bp_run.specs.declared.end.Answer.{Answer}
 
 -- a command: what its files give together, the plan of its files, its own answers and which of them are right, what

@@ -4,7 +4,7 @@ use Rattle.bp_types.specs.declared.limits.TheConstants.{MOST_NIGHTS, MOST_ROOMS,
 use Rattle.bp_script.specs.declared.generator.TheConstants.{SEEDS}
 use Rattle.bp_demo.specs.Demos.{IsDemo}
 use Rattle.bp_cli.specs.Tasks.{Task, check, solve, group, judge, desk, replay, report, demo, scenarios, sheet, portfolio}
-use Rattle.bp_run.specs.Stages.{done}
+use Rattle.bp_inputs.specs.Stages.{done}
 use Rattle.bp_run.specs.Command.{Command}
 use Rattle.bp_run.specs.declared.end.Answer.TheVariants.{Demonstrated}
 

@@ -11,11 +11,11 @@ use Rattle.bp_desk_run.specs.DeskRun.{IsDeskRun, IsComplete, IsClosed, IsCut, Ha
 use Rattle.bp_desk_run.specs.RightRun.{Staged, IsRightRun}
 use Rattle.bp_desk_run.specs.declared.callers.Ran.{Ran}
 use Rattle.bp_cli.specs.Words.{Word}
-use Rattle.bp_run.specs.Stages.{Plan, done, ask, followed_by}
-use Rattle.bp_run.specs.HotelPlan.{HotelNames, hotel_plan}
-use Rattle.bp_run.specs.ScriptFiles.{script_of_hotel}
+use Rattle.bp_inputs.specs.Stages.{Plan, done, ask, followed_by}
+use Rattle.bp_inputs.specs.HotelPlan.{HotelNames, hotel_plan}
+use Rattle.bp_inputs.specs.ScriptFiles.{script_of_hotel}
 use Rattle.bp_run.specs.Command.{Command as LineCommand}
-use Rattle.bp_run.specs.declared.house.OpenHotel.{OpenHotel}
+use Rattle.bp_inputs.specs.declared.house.OpenHotel.{OpenHotel}
 use Rattle.bp_run.specs.declared.status.Status.{Status}
 use Rattle.bp_run.specs.declared.status.Status.TheVariants.{Done, Unfinished}
 use Rattle.bp_run.specs.declared.end.Answer.TheVariants.{Ran as RanAnswer}

@@ -5,18 +5,18 @@ use Rattle.bp_edges.specs.Held.{Files, Fetch}
 use Rattle.bp_edges.specs.Writing.{Appended, AppendedPrefix}
 use Rattle.bp_cli.specs.Words.{Word}
 use Rattle.bp_cli.specs.Tasks.{Task, FiveNames, desk, scenarios, Asks, portfolio}
-use Rattle.bp_run.specs.HotelPlan.{HotelNames, named}
+use Rattle.bp_inputs.specs.HotelPlan.{HotelNames, named}
 use Rattle.bp_run.specs.Served.{AreServed}
 use Rattle.bp_run.specs.Statuses.{status_number}
-use Rattle.bp_run.specs.Stages.{ComesAt, HoldsFiles, AreGood}
-use Rattle.bp_run.specs.Fetches.{Fetches, Fails, IsRefusedFor}
+use Rattle.bp_inputs.specs.Stages.{ComesAt, HoldsFiles, AreGood}
+use Rattle.bp_inputs.specs.Fetches.{Fetches, Fails, IsRefusedFor}
 use Rattle.bp_run.specs.Puts.{Puts}
 use Rattle.bp_run.specs.Command.{IsAnswerOf}
 use Rattle.bp_run.specs.Commands.{command_of, IsPlainAnswer}
 use Rattle.bp_run.specs.Lines.{said, end_status}
 use Rattle.bp_run.specs.declared.status.Status.TheVariants as status
-use Rattle.bp_run.specs.declared.stop.Stop.{Stop}
-use Rattle.bp_run.specs.declared.stop.Stop.TheVariants as stop
+use Rattle.bp_inputs.specs.declared.stop.Stop.{Stop}
+use Rattle.bp_inputs.specs.declared.stop.Stop.TheVariants as stop
 use Rattle.bp_run.specs.declared.outcome.DeskLine.{DeskLine}
 use Rattle.bp_run.specs.declared.outcome.ScenariosLine.{ScenariosLine}
 use Rattle.bp_run.specs.declared.outcome.PortfolioLine.{PortfolioLine}

@@ -8,8 +8,8 @@ use Rattle.bp_types.specs.Changes.{HasUnits}
 use Rattle.bp_types.specs.Displacement.{IsDisplacement, without}
 use Rattle.bp_cert.specs.Texts.{certificate_text}
 use Rattle.bp_cli.specs.Words.{Word}
-use Rattle.bp_run.specs.Stages.{one}
-use Rattle.bp_run.specs.TextFiles.{problem_file}
+use Rattle.bp_inputs.specs.Stages.{one}
+use Rattle.bp_inputs.specs.TextFiles.{problem_file}
 use Rattle.bp_run.specs.Command.{Command}
 use Rattle.bp_run.specs.Texts.{line}
 use Rattle.bp_run.specs.declared.status.Status.{Status}

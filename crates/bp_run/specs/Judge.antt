@@ -10,10 +10,10 @@ use Rattle.bp_judge.specs.declared.judgement.Cause.{Cause}
 use Rattle.bp_judge.specs.declared.judgement.Cause.TheVariants as cause
 use Rattle.bp_cli.specs.Words.{Word}
 use Rattle.bp_cli.specs.Tasks.{FiveNames}
-use Rattle.bp_run.specs.Stages.{Plan, done, ask, followed_by}
-use Rattle.bp_run.specs.TextFiles.{problem_file}
-use Rattle.bp_run.specs.JournalFiles.{journal_file}
-use Rattle.bp_run.specs.HotelPlan.{HotelNames, hotel_plan}
+use Rattle.bp_inputs.specs.Stages.{Plan, done, ask, followed_by}
+use Rattle.bp_inputs.specs.TextFiles.{problem_file}
+use Rattle.bp_inputs.specs.JournalFiles.{journal_file}
+use Rattle.bp_inputs.specs.HotelPlan.{HotelNames, hotel_plan}
 use Rattle.bp_run.specs.Command.{Command}
 use Rattle.bp_run.specs.Texts.{line}
 use Rattle.bp_run.specs.declared.status.Status.{Status}

@@ -4,12 +4,16 @@ use Rattle.std.specs.FinMap.{get}
 use Rattle.bp_edges.specs.Held.{Files}
 use Rattle.bp_desk_run.specs.declared.callers.Ran.{Ran}
 use Rattle.bp_cli.specs.Words.{Word}
-use Rattle.bp_run.specs.HotelPlan.{HotelNames}
+use Rattle.bp_inputs.specs.Fetches.{Fetches}
+use Rattle.bp_inputs.specs.HotelPlan.{HotelNames}
 use Rattle.bp_run.specs.Command.{IsAnswered}
 use Rattle.bp_run.specs.Desk.{desk_command, run_said}
+use Rattle.bp_run.specs.Ends.{HasEnd}
+use Rattle.bp_run.specs.Served.{AreServed}
 use Rattle.bp_run.specs.Judge.{ruling_command, replay_plan}
 use Rattle.bp_run.specs.declared.commands.judge.Ruling.{Ruling}
 use Rattle.bp_run.specs.declared.commands.judge.Ruling.TheVariants.{Legal}
+use Rattle.bp_run.specs.declared.end.End.TheVariants.{NotPlain}
 
 -- two shelves hold the same four files of a hotel
 pub record HoldOneHotel (names : HotelNames) (a b : Files) : Type 0 where
@@ -28,3 +32,7 @@ RunsAreLegal =
     → IsAnswered (Some before) (desk_command names script workers) ran
     → IsAnswered (Some later) (ruling_command (replay_plan names journal)) ruling
     → ruling ≡ Legal (length ran.book.history)
+
+-- no line that asks for a task ends as one that asks for none
+abbrev pub PlainLinesAreServed : Type 0
+PlainLinesAreServed = (words : List Word) (shelf : Fetches) → AreServed words → HasEnd words shelf NotPlain → ⊥

@@ -1,16 +1,5 @@
 pub mod Served
 pub mod Statuses
-pub mod Stages
-pub mod Fetches
-pub mod Unread
-pub mod Stops
-pub mod TextFiles
-pub mod HotelFiles
-pub mod HotelPlan
-pub mod JournalFiles
-pub mod ScriptFiles
-pub mod ScenarioFiles
-pub mod ListFiles
 pub mod Texts
 pub mod Command
 pub mod Check

@@ -8,9 +8,9 @@ use Rattle.bp_desk_run.specs.declared.callers.Ran.{Ran}
 use Rattle.bp_portfolio.specs.Lists.{FiveNames}
 use Rattle.bp_portfolio.specs.Desks.{AreRightRuns, HaveRoom}
 use Rattle.bp_cli.specs.Words.{Word}
-use Rattle.bp_run.specs.Stages.{Plan, done, ask, followed_by}
-use Rattle.bp_run.specs.HotelPlan.{HotelNames}
-use Rattle.bp_run.specs.ListFiles.{list_file}
+use Rattle.bp_inputs.specs.Stages.{Plan, done, ask, followed_by}
+use Rattle.bp_inputs.specs.HotelPlan.{HotelNames}
+use Rattle.bp_inputs.specs.ListFiles.{list_file}
 use Rattle.bp_run.specs.Desk.{desk_plan, run_said, run_status}
 use Rattle.bp_run.specs.Texts.{line}
 use Rattle.bp_run.specs.Command.{Command}

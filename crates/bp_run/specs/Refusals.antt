@@ -10,9 +10,9 @@ use Rattle.bp_stayfile.specs.Columns.{column_text}
 use Rattle.bp_stayfile.specs.declared.error.TableRefusal.{TableRefusal}
 use Rattle.bp_stayfile.specs.declared.error.TableRefusal.TheVariants as table
 use Rattle.bp_run.specs.Texts.{line}
-use Rattle.bp_run.specs.declared.end.Cause.{Cause}
-use Rattle.bp_run.specs.declared.end.Cause.TheVariants.{TooLong, Reader}
-use Rattle.bp_run.specs.declared.end.FileError.TheVariants.{Text, Hotel, Table}
+use Rattle.bp_inputs.specs.declared.cause.Cause.{Cause}
+use Rattle.bp_inputs.specs.declared.cause.Cause.TheVariants.{TooLong, Reader}
+use Rattle.bp_inputs.specs.declared.cause.FileError.TheVariants.{Text, Hotel, Table}
 
 -- the file with this number is refused with a word and numbers
 abbrev pub refused : ℕ → List ℕ → List ℕ → List ℕ

@@ -5,12 +5,12 @@ use Rattle.bp_core.specs.Legal.{IsLegal}
 use Rattle.bp_judge.specs.Judging.{IsFirstIllegal}
 use Rattle.bp_report.specs.Tables.{IsReport}
 use Rattle.bp_cli.specs.Words.{Word}
-use Rattle.bp_run.specs.Stages.{Plan, done, ask, followed_by}
-use Rattle.bp_run.specs.JournalFiles.{journal_file}
-use Rattle.bp_run.specs.HotelPlan.{HotelNames, hotel_plan}
+use Rattle.bp_inputs.specs.Stages.{Plan, done, ask, followed_by}
+use Rattle.bp_inputs.specs.JournalFiles.{journal_file}
+use Rattle.bp_inputs.specs.HotelPlan.{HotelNames, hotel_plan}
 use Rattle.bp_run.specs.Command.{Command}
 use Rattle.bp_run.specs.Judge.{ruling_line}
-use Rattle.bp_run.specs.declared.house.OpenHotel.{OpenHotel}
+use Rattle.bp_inputs.specs.declared.house.OpenHotel.{OpenHotel}
 use Rattle.bp_run.specs.declared.status.Status.{Status}
 use Rattle.bp_run.specs.declared.status.Status.TheVariants.{Done, Wrong}
 use Rattle.bp_run.specs.declared.end.Answer.TheVariants.{Reported}

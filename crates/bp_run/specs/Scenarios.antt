@@ -8,9 +8,9 @@ use Rattle.bp_scenarios.specs.declared.outcome.Outcome.{Outcome}
 use Rattle.bp_scenarios.specs.Outcomes.{IsOutcome}
 use Rattle.bp_scenarios.specs.Printed.{outcome_lines}
 use Rattle.bp_cli.specs.Words.{Word}
-use Rattle.bp_run.specs.Stages.{Plan, done, ask}
-use Rattle.bp_run.specs.TextFiles.{problem_file}
-use Rattle.bp_run.specs.ScenarioFiles.{scenarios_file}
+use Rattle.bp_inputs.specs.Stages.{Plan, done, ask}
+use Rattle.bp_inputs.specs.TextFiles.{problem_file}
+use Rattle.bp_inputs.specs.ScenarioFiles.{scenarios_file}
 use Rattle.bp_run.specs.Command.{Command}
 use Rattle.bp_run.specs.declared.end.Answer.TheVariants.{Foreseen}
 

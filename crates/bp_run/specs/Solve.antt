@@ -2,8 +2,8 @@
 use Rattle.bp_types.specs.Program.{Program}
 use Rattle.bp_types.specs.Claim.{Claim, IsLeastCertificate}
 use Rattle.bp_cli.specs.Words.{Word}
-use Rattle.bp_run.specs.Stages.{one}
-use Rattle.bp_run.specs.TextFiles.{problem_file}
+use Rattle.bp_inputs.specs.Stages.{one}
+use Rattle.bp_inputs.specs.TextFiles.{problem_file}
 use Rattle.bp_run.specs.Command.{Command}
 use Rattle.bp_run.specs.declared.end.Answer.TheVariants.{Solved}
 

@@ -3,31 +3,9 @@ use crate::{GroupAnswer, Outcomes, ReportAnswer, Ruling, Runs};
 use bp_cert::Verdict;
 use bp_demo::DemoText;
 use bp_desk_run::Ran;
-use bp_hotelfile::HotelRefusal;
+use bp_inputs::Cause;
 use bp_sheets::SheetText;
-use bp_stayfile::TableRefusal;
-use bp_text::TextError;
 use bp_types::Certificate;
-
-/// Why a reader refuses a file, in the reader's own words.
-#[derive(Clone, Copy, Debug, PartialEq, Eq)]
-pub enum FileError {
-    /// A text of lines. No end has its want of memory.
-    Text(TextError),
-    /// A hotel file.
-    Hotel(HotelRefusal),
-    /// A table.
-    Table(TableRefusal),
-}
-
-/// Why a file is refused.
-#[derive(Clone, Copy, Debug, PartialEq, Eq)]
-pub enum Cause {
-    /// It has more bytes than its limit.
-    TooLong,
-    /// Its reader refuses it.
-    Reader(FileError),
-}
 
 /// What a command answers, where its files are good.
 #[derive(Drop)]

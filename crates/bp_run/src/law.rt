@@ -1,6 +1,6 @@
 //! Laws over what commands answer, as the contracts of functions that do nothing.
 
-ghost use Rattle.bp_run.specs.Laws.{RunsAreLegal};
+ghost use Rattle.bp_run.specs.Laws.{PlainLinesAreServed, RunsAreLegal};
 
 /// The journal that a desk wrote is legal by `replay` of the same four files.
 pub fn runs_are_legal()
@@ -14,3 +14,8 @@ pub fn runs_are_legal()
     bp_journal::law::written_is_read();
     bp_judge::law::not_both();
 }
+
+/// No line that asks for a task is answered by the usage text.
+pub fn plain_lines_are_served()
+    ensures { PlainLinesAreServed }
+{}

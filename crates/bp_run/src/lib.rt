@@ -9,24 +9,20 @@
 
 mod commands;
 mod end;
-mod files;
-mod house;
 pub mod law;
 mod lines;
 mod outcome;
 mod print;
 mod refusals;
 mod status;
-mod stop;
 mod threads;
 mod top;
-mod unread;
 
 pub use commands::group::GroupAnswer;
 pub use commands::judge::Ruling;
 pub use commands::portfolio::Runs;
 pub use commands::report::ReportAnswer;
 pub use commands::scenarios::Outcomes;
-pub use end::{Answer, Cause, End, FileError};
+pub use end::{Answer, End};
 pub use status::Status;
 pub use top::{run, run_no_task, run_plain, run_task};

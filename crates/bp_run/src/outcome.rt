@@ -3,7 +3,7 @@ ghost use Rattle.std.specs.Prelude.{◌≡◌, ◌≢◌, List, IfOk, MatchOptio
 ghost use Rattle.bp_cli.specs.Words.{Word, texts};
 ghost use Rattle.bp_cli.specs.Asked.{asked};
 ghost use Rattle.bp_cli.specs.Tasks.{Asks};
-ghost use Rattle.bp_run.specs.Fetches.{over};
+ghost use Rattle.bp_inputs.specs.Fetches.{over};
 ghost use Rattle.bp_run.specs.Served.{IsPlainTask, MayStartThreads, IsDesk, AreScenarios, IsPortfolio};
 ghost use Rattle.bp_run.specs.Demo.{HasDemoNumbers};
 ghost use Rattle.bp_run.specs.Lines.{end_status};
@@ -20,11 +20,10 @@ ghost use Rattle.bp_run.specs.Ends.{
 ghost use Rattle.bp_run.specs.declared.status.Status.TheVariants.{Fault};
 
 use crate::commands::{desk, portfolio, scenarios};
-use crate::house::HotelFiles;
-use crate::stop::Stop;
 use crate::{Answer, End, commands};
 use bp_cli::{Task, WordsError, law, parse};
 use bp_edges::{Gate, Shelf};
+use bp_inputs::{HotelFiles, Stop};
 use bp_types::Memory;
 use std::alloc::Global;
 use std::sync::Wait;

@@ -2,8 +2,8 @@
 ghost use Rattle.std.specs.Prelude.{◌≡◌, IfOk, string_bytes};
 ghost use Rattle.bp_run.specs.Refusals.{refusal_line, text_refusal, hotel_refusal, table_refusal};
 
-use crate::{Cause, FileError};
 use bp_hotelfile::HotelRefusal;
+use bp_inputs::{Cause, FileError};
 use bp_stayfile::TableRefusal;
 use bp_text::TextError;
 use std::alloc::{AllocError, Global};

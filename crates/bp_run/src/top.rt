@@ -4,7 +4,7 @@ ghost use Rattle.bp_cli.specs.Words.{texts};
 ghost use Rattle.bp_cli.specs.Asked.{asked};
 ghost use Rattle.bp_run.specs.Served.{IsPlainTask, MayStartThreads};
 ghost use Rattle.bp_run.specs.Demo.{HasDemoNumbers};
-ghost use Rattle.bp_run.specs.Fetches.{over};
+ghost use Rattle.bp_inputs.specs.Fetches.{over};
 ghost use Rattle.bp_run.specs.Puts.{onto};
 ghost use Rattle.bp_run.specs.Ends.{Serves, ServesTask, ServesNoTask};
 

@@ -1,3 +1,4 @@
+//! Damaged files, and edges that fail.
 use crate::damaged::{damages, headers, records, too_long};
 use crate::desk_files::HEADER;
 use crate::desks::{all_files, served_over};

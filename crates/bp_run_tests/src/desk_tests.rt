@@ -1,3 +1,4 @@
+//! Lines of `desk`, alone and held by gates.
 use crate::desk_lines::{HELD_IN_TURNS, LAST_ROOM, ONE_ROUND_BETWEEN, alone, beside_two_workers};
 use crate::desks::{acts_of, desk, is_legal};
 use crate::gates::{Arrivals, InTurns, OneRoundBetween};

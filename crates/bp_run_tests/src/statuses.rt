@@ -1,3 +1,4 @@
+//! The numbers of the statuses.
 use bp_run::Status;
 use std::test::Fail;
 

@@ -1,3 +1,4 @@
+//! Lines that one thread serves.
 use crate::files::{CERTIFICATE, PROBLEM, files};
 use crate::lines::{failing, not_served, served, usage};
 use bp_edges::{HeldFile, MemoryShelf, MemorySink, NoGate};

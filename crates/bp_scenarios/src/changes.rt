@@ -1,3 +1,4 @@
+//! One scenario: a list of changes.
 ghost use Rattle.std.specs.Prelude.{◌≡◌, ◌++◌, ◌∷◌, [], OnOk};
 
 use bp_types::Change;

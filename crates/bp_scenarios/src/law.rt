@@ -15,8 +15,7 @@ pub fn outcome_is_unique()
 }
 
 /// No two lists of scenarios have one text, and none goes on behind another; bytes are read as scenarios of a problem
-/// in
-/// one way.
+/// in one way.
 pub fn scenarios_have_one_spelling()
     ensures spelling { HasOneSpelling scenario_lines }
     ensures prefix { IsPrefixFree scenario_lines }

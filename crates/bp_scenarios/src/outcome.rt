@@ -1,3 +1,4 @@
+//! What a scenario comes to.
 ghost use Rattle.std.specs.Prelude.{◌≡◌};
 
 use std::marker::Model;

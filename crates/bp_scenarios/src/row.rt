@@ -1,3 +1,4 @@
+//! A line of a text of scenarios.
 use bp_types::Change;
 
 /// A line between the first one of a text of scenarios and the last one.

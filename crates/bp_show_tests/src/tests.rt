@@ -83,8 +83,7 @@ fn never_falls(view: &mut View, looks: u32) -> bool {
 }
 
 // No clause says that a look finds what was shown last, so a look that answers only what the last `meet` gave is
-// refused
-// here alone.
+// refused here alone.
 #[test]
 fn two_views_that_look(rt: HostRuntime) -> Result<(), Fail> {
     let (mut lobby, mut views) = Lobby::open(&rt, rt.alloc(), ONE_ROOM, 2)?;

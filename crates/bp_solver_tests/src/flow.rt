@@ -1,3 +1,4 @@
+//! Cold solves and single changes, against certificates that are worked out by hand.
 ghost use Rattle.std.specs.Prelude.{◌≡◌, ◌<◌};
 
 use crate::instances::{

@@ -1,3 +1,4 @@
+//! Groups, against displacements that are worked out by hand.
 ghost use Rattle.std.specs.Prelude.{◌≡◌, ◌<◌};
 
 use crate::instances::{expect_certificate, three_nights};

@@ -1,3 +1,4 @@
+//! The instances of the tests, and what is expected of them.
 use bp_flow::Solver;
 use bp_types::{Certificate, Change, Instance, Memory, Span, Stay, Steps};
 use std::alloc::Global;

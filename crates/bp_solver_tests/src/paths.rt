@@ -1,3 +1,4 @@
+//! A scratch with ample memory.
 use bp_paths::Scratch;
 use std::test::Fail;
 

@@ -1,3 +1,4 @@
+//! A residual network with ample memory.
 use crate::instances::{Row, expect_certificate, instance_of};
 use bp_residual::{ArcView, Flow, Hop};
 use std::alloc::Global;

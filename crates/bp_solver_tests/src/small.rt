@@ -1,3 +1,4 @@
+//! Every small instance, against a plain search over all allocations and prices.
 use crate::instances::Row;
 
 /// Rooms by night, and stays: at most three of each, with rates up to 3 and forecasts up to 2.

@@ -1,3 +1,4 @@
+//! Every small instance, from every start.
 ghost use Rattle.std.specs.Prelude.{◌≡◌, ◌<◌};
 
 use crate::instances::{Row, instance_of};

@@ -1,3 +1,4 @@
+//! Restarts, with the searches that each may count.
 ghost use Rattle.std.specs.Prelude.{◌≡◌, ◌+◌, ◌<◌, ◌≤◌, length, slice_index, IsTrue, MatchBool};
 ghost use Rattle.bp_types.specs.declared.limits.TheConstants.{MOST_UNITS};
 ghost use Rattle.bp_types.specs.declared.change.Change.TheVariants.{Rooms};

@@ -1,3 +1,4 @@
+//! A restart: a list of changes made on a solver, and its prices settled once.
 ghost use Rattle.std.specs.Prelude.{◌≡◌, ◌+◌, ◌<◌, ◌≤◌, length, drop};
 ghost use Rattle.bp_types.specs.Changes.{changed, changed_by_all, Fits, FitInTurn};
 ghost use Rattle.bp_flow.specs.Settled.{IsSettled, IsSolvable};

@@ -1,16 +1,13 @@
 //! `check PROBLEM CERTIFICATE`: the verdict on a certificate.
 ghost use Rattle.std.specs.Prelude.{◌≡◌, IfOk, string_bytes};
-ghost use Rattle.bp_run.specs.Fetches.{over};
+ghost use Rattle.bp_inputs.specs.Fetches.{over};
 ghost use Rattle.bp_run.specs.Command.{Brings};
 ghost use Rattle.bp_run.specs.Check.{check_command, verdict_line, verdict_status};
 
 use crate::Status;
-use crate::files::certificate::CertificateFile;
-use crate::files::load;
-use crate::files::problem::ProblemFile;
-use crate::stop::Stop;
 use bp_cert::Verdict;
 use bp_edges::Shelf;
+use bp_inputs::{CertificateFile, ProblemFile, Stop, load};
 use std::alloc::{AllocError, Global};
 
 /// Reads both files, the problem first, and checks the certificate.

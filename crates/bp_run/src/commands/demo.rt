@@ -1,11 +1,11 @@
 //! `demo SEED NIGHTS ROOMS STAYS`: a hotel made of four numbers, and each of its stays booked once.
-ghost use Rattle.bp_run.specs.Fetches.{over};
+ghost use Rattle.bp_inputs.specs.Fetches.{over};
 ghost use Rattle.bp_run.specs.Command.{Brings};
 ghost use Rattle.bp_run.specs.Demo.{AreDemoNumbers, demo_command};
 
-use crate::stop::Stop;
 use bp_demo::DemoText;
 use bp_edges::Shelf;
+use bp_inputs::Stop;
 use std::alloc::Global;
 
 /// Makes the demo. The shelf has no file of it.

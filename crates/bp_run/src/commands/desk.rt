@@ -1,19 +1,16 @@
 //! `desk HOTEL STAYS FORECAST BOOKINGS SCRIPT [--workers W]`: the sessions of a script on one desk.
 ghost use Rattle.std.specs.Prelude.{◌≡◌, ◌+◌, ◌<◌, ◌≤◌, ◌^◌};
 ghost use Rattle.bp_types.specs.declared.limits.TheConstants.{MOST_WORKERS};
-ghost use Rattle.bp_run.specs.Fetches.{over};
-ghost use Rattle.bp_run.specs.Stops.{Follows};
+ghost use Rattle.bp_inputs.specs.Fetches.{over};
+ghost use Rattle.bp_inputs.specs.Stops.{Follows};
 ghost use Rattle.bp_run.specs.Command.{Brings};
-ghost use Rattle.bp_run.specs.HotelPlan.{named};
+ghost use Rattle.bp_inputs.specs.HotelPlan.{named};
 ghost use Rattle.bp_run.specs.Desk.{desk_command, desk_plan, run_status};
 
 use crate::Status;
-use crate::files::load;
-use crate::files::script::ScriptFile;
-use crate::house::{HotelFiles, load_house};
-use crate::stop::Stop;
 use bp_desk_run::Ran;
 use bp_edges::{Gate, Shelf};
+use bp_inputs::{HotelFiles, ScriptFile, Stop, load, load_house};
 use bp_portfolio::Staged;
 use std::alloc::Global;
 use std::sync::Wait;

@@ -1,18 +1,16 @@
 //! `group PROBLEM FROM TO ROOMS`: what a group displaces.
 ghost use Rattle.std.specs.Prelude.{◌≡◌, ◌<◌, IfOk, length, string_bytes};
 ghost use Rattle.bp_types.specs.Spans.{IsSpanWithin};
-ghost use Rattle.bp_run.specs.Fetches.{over};
+ghost use Rattle.bp_inputs.specs.Fetches.{over};
 ghost use Rattle.bp_run.specs.Command.{Brings};
 ghost use Rattle.bp_run.specs.Group.{IsGroupAnswer, group_command, group_said, group_status};
 
 use crate::Status;
-use crate::files::load;
-use crate::files::problem::ProblemFile;
-use crate::stop::Stop;
 use bp_cert::text_of_certificate;
 use bp_edges::Shelf;
 use bp_flow::Solver;
 use bp_group::{GroupQuote, QuoteError, quote};
+use bp_inputs::{ProblemFile, Stop, load};
 use bp_types::{Certificate, Instance, Memory, Span, Steps};
 use std::alloc::{AllocError, Global};
 use std::marker::Brand;

@@ -1,17 +1,13 @@
 //! `judge PROBLEM JOURNAL` and `replay HOTEL STAYS FORECAST BOOKINGS JOURNAL`: whether a journal is legal.
 ghost use Rattle.std.specs.Prelude.{◌≡◌, ◌<◌, IfOk, string_bytes};
-ghost use Rattle.bp_run.specs.Fetches.{over};
+ghost use Rattle.bp_inputs.specs.Fetches.{over};
 ghost use Rattle.bp_run.specs.Command.{Brings};
-ghost use Rattle.bp_run.specs.HotelPlan.{named};
+ghost use Rattle.bp_inputs.specs.HotelPlan.{named};
 ghost use Rattle.bp_run.specs.Judge.{IsRuling, ruling_command, judge_plan, replay_plan, ruling_line, ruling_status};
 
 use crate::Status;
-use crate::files::journal::JournalFile;
-use crate::files::load;
-use crate::files::problem::ProblemFile;
-use crate::house::{HotelFiles, load_house};
-use crate::stop::Stop;
 use bp_edges::Shelf;
+use bp_inputs::{HotelFiles, JournalFile, ProblemFile, Stop, load, load_house};
 use bp_journal::Journal;
 use bp_judge::{Cause, Judgement};
 use bp_problem_house::house_of_problem;

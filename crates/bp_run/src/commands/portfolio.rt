@@ -21,10 +21,10 @@ ghost use Rattle.bp_types.specs.declared.limits.TheConstants.{MOST_HOTELS, MOST_
 ghost use Rattle.bp_edges.specs.Counts.{Rose};
 ghost use Rattle.bp_edges.specs.Writing.{Writes};
 ghost use Rattle.bp_portfolio.specs.Desks.{AreRightRuns};
-ghost use Rattle.bp_run.specs.Fetches.{over};
-ghost use Rattle.bp_run.specs.Stops.{Follows, of_all};
+ghost use Rattle.bp_inputs.specs.Fetches.{over};
+ghost use Rattle.bp_inputs.specs.Stops.{Follows, of_all};
 ghost use Rattle.bp_run.specs.Command.{Brings};
-ghost use Rattle.bp_run.specs.HotelPlan.{named};
+ghost use Rattle.bp_inputs.specs.HotelPlan.{named};
 ghost use Rattle.bp_run.specs.Portfolio.{
   desks_plan,
   four_names,
@@ -39,12 +39,9 @@ ghost use Rattle.bp_run.specs.Puts.{onto, PutsText};
 
 use crate::Status;
 use crate::commands::desk::{self, load_desk};
-use crate::files::list::ListFile;
-use crate::files::load;
-use crate::house::HotelFiles;
-use crate::stop::Stop;
 use bp_desk_run::Ran;
 use bp_edges::{Gate, Shelf, Sink, WriteError};
+use bp_inputs::{HotelFiles, ListFile, Stop, load};
 use bp_portfolio::{Names, Staged, run_desks};
 use bp_text::write_text;
 use bp_types::Memory;
@@ -131,8 +128,7 @@ fn all_run<R: Wait + Threads + Sync, G: Gate>(
 }
 
 /// Reads a list and the files of all its hotels in order, and then runs their desks beside one another, each with so
-/// many
-/// optimisers.
+/// many optimisers.
 pub fn answer<R: Wait + Threads + Sync, S: Shelf, G: Gate>(
     rt: &R,
     alloc: Global,

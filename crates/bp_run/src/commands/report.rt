@@ -1,18 +1,15 @@
 //! `report HOTEL STAYS FORECAST BOOKINGS JOURNAL`: the tables of a journal, where it is legal.
 ghost use Rattle.std.specs.Prelude.{◌≡◌, ◌<◌, IfOk};
-ghost use Rattle.bp_run.specs.Fetches.{over};
+ghost use Rattle.bp_inputs.specs.Fetches.{over};
 ghost use Rattle.bp_run.specs.Command.{Brings};
-ghost use Rattle.bp_run.specs.HotelPlan.{named};
+ghost use Rattle.bp_inputs.specs.HotelPlan.{named};
 ghost use Rattle.bp_run.specs.Puts.{onto, PutsText};
 ghost use Rattle.bp_run.specs.Report.{IsReportAnswer, report_command, report_said, report_status};
 
 use crate::commands::judge;
-use crate::files::journal::JournalFile;
-use crate::files::load;
-use crate::house::{HotelFiles, OpenHotel, load_house};
-use crate::stop::Stop;
 use crate::{Ruling, Status};
 use bp_edges::{Shelf, Sink, WriteError};
+use bp_inputs::{HotelFiles, JournalFile, OpenHotel, Stop, load, load_house};
 use bp_journal::Journal;
 use bp_judge::{Cause, Judgement};
 use bp_report::Report;

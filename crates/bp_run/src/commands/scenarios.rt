@@ -3,15 +3,12 @@ ghost use Rattle.std.specs.Prelude.{◌≡◌, IfOk, All};
 ghost use Rattle.std.specs.List.{AllZip};
 ghost use Rattle.bp_scenarios.specs.Refused.{IsAskable};
 ghost use Rattle.bp_scenarios.specs.Outcomes.{IsOutcome};
-ghost use Rattle.bp_run.specs.Fetches.{over};
+ghost use Rattle.bp_inputs.specs.Fetches.{over};
 ghost use Rattle.bp_run.specs.Command.{Brings};
 ghost use Rattle.bp_run.specs.Scenarios.{scenarios_command};
 
-use crate::files::load;
-use crate::files::problem::ProblemFile;
-use crate::files::scenarios::{ScenariosFile, WhatIfLists};
-use crate::stop::Stop;
 use bp_edges::Shelf;
+use bp_inputs::{ProblemFile, ScenariosFile, Stop, WhatIfLists, load};
 use bp_scenarios::Outcome;
 use bp_types::{Instance, Memory};
 use std::alloc::Global;

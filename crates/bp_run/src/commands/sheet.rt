@@ -1,12 +1,10 @@
 //! `sheet PROBLEM`: the bands of a problem's nights, and what a stay of each length has to pay.
-ghost use Rattle.bp_run.specs.Fetches.{over};
+ghost use Rattle.bp_inputs.specs.Fetches.{over};
 ghost use Rattle.bp_run.specs.Command.{Brings};
 ghost use Rattle.bp_run.specs.Sheet.{sheet_command};
 
-use crate::files::load;
-use crate::files::problem::ProblemFile;
-use crate::stop::Stop;
 use bp_edges::Shelf;
+use bp_inputs::{ProblemFile, Stop, load};
 use bp_sheets::{SheetText, sheet_of};
 use std::alloc::Global;
 

@@ -1,15 +1,13 @@
 //! `solve PROBLEM`: a certificate with the least prices.
 ghost use Rattle.std.specs.Prelude.{◌≡◌, ◌<◌, IfOk};
-ghost use Rattle.bp_run.specs.Fetches.{over};
+ghost use Rattle.bp_inputs.specs.Fetches.{over};
 ghost use Rattle.bp_run.specs.Command.{Brings};
 ghost use Rattle.bp_types.specs.Claim.{IsLeastCertificate};
 ghost use Rattle.bp_run.specs.Solve.{solve_command};
 
-use crate::files::load;
-use crate::files::problem::ProblemFile;
-use crate::stop::Stop;
 use bp_edges::Shelf;
 use bp_flow::Solver;
+use bp_inputs::{ProblemFile, Stop, load};
 use bp_types::{Certificate, Instance, Memory, Steps};
 use std::alloc::Global;
 use std::marker::Brand;

@@ -1,7 +1,7 @@
 use Rattle.std.proofs.Common.{refl}
 use Rattle.std.proofs.lemmas.Result.{err_from_is_err_and}
 use Rattle.bp_run.specs.Demo.{demo_command}
-use Rattle.bp_run.proofs.StageLemmas.{follows_nothing, leaves_same}
+use Rattle.bp_inputs.proofs.StageLemmas.{follows_nothing, leaves_same}
 use Rattle.bp_run.proofs.EndLemmas.{brings_stop}
 use Rattle.bp_run.proofs.commands.demo.answer.Goals as goal
 

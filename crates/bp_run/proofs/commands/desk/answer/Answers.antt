@@ -1,9 +1,9 @@
 use Rattle.std.proofs.Common.{refl}
 use Rattle.std.proofs.lemmas.Result.{err_from_is_err_and}
-use Rattle.bp_run.specs.HotelPlan.{named}
+use Rattle.bp_inputs.specs.HotelPlan.{named}
 use Rattle.bp_run.specs.Desk.{desk_command, desk_plan}
-use Rattle.bp_run.specs.Fetches.{over}
-use Rattle.bp_run.proofs.StageLemmas.{follows_then_nothing}
+use Rattle.bp_inputs.specs.Fetches.{over}
+use Rattle.bp_inputs.proofs.StageLemmas.{follows_then_nothing}
 use Rattle.bp_run.proofs.EndLemmas.{brings_stop, brings_answer}
 use Rattle.bp_run.proofs.commands.desk.answer.Goals as goal
 

@@ -1,9 +1,9 @@
 use Rattle.std.proofs.Common.{refl, ◌+◌, arith}
 use Rattle.std.proofs.lemmas.Result.{err_from_is_err_and}
-use Rattle.bp_run.specs.HotelPlan.{hotel_plan, named}
+use Rattle.bp_inputs.specs.HotelPlan.{hotel_plan, named}
 use Rattle.bp_run.specs.Desk.{script_plan}
-use Rattle.bp_run.specs.declared.house.OpenHotel.{OpenHotel}
-use Rattle.bp_run.proofs.StageLemmas.{follows_both, follows_first, follows_stage, follows_stop, follows_made, leaves_same}
+use Rattle.bp_inputs.specs.declared.house.OpenHotel.{OpenHotel}
+use Rattle.bp_inputs.proofs.StageLemmas.{follows_both, follows_first, follows_stage, follows_stop, follows_made, leaves_same}
 use Rattle.bp_run.proofs.commands.desk.load_desk.Goals as goal
 
 pub returns-in_err-open : goal.returns-in_err-open

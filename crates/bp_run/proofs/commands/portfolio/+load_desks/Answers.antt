@@ -1,6 +1,6 @@
 use Rattle.std.proofs.Common.{◌+◌, refl, arith}
 use Rattle.std.proofs.lemmas.Result.{err_from_is_err_and}
-use Rattle.bp_run.specs.HotelPlan.{named}
+use Rattle.bp_inputs.specs.HotelPlan.{named}
 use Rattle.bp_run.proofs.PortfolioLemmas.{hotel_stops, hotel_then}
 use Rattle.bp_run.proofs.commands.portfolio.+load_desks.Goals as goal
 

@@ -1,7 +1,7 @@
 use Rattle.std.proofs.Common.{ℕ, ◌+◌, ◌*◌, refl, [], length}
 use Rattle.std.proofs.lemmas.Result.{err_from_is_err_and}
 use Rattle.bp_run.specs.Portfolio.{portfolio_command}
-use Rattle.bp_run.proofs.StageLemmas.{follows_stage, follows_stop, follows_then_nothing}
+use Rattle.bp_inputs.proofs.StageLemmas.{follows_stage, follows_stop, follows_then_nothing}
 use Rattle.bp_run.proofs.PortfolioLemmas.{from_none}
 use Rattle.bp_run.proofs.EndLemmas.{brings_stop, brings_answer}
 use Rattle.bp_run.proofs.commands.portfolio.answer.Goals as goal

@@ -1,11 +1,11 @@
 use Rattle.std.proofs.Common.{refl}
 use Rattle.std.proofs.lemmas.Result.{err_from_is_err_and}
-use Rattle.bp_run.specs.HotelPlan.{hotel_plan, named}
+use Rattle.bp_inputs.specs.HotelPlan.{hotel_plan, named}
 use Rattle.bp_run.specs.Report.{report_command, told_plan}
-use Rattle.bp_run.specs.declared.house.OpenHotel.{OpenHotel}
-use Rattle.bp_run.proofs.StageLemmas.{follows_both, follows_first, follows_stage, follows_stop, follows_made, follows_nothing, leaves_same}
+use Rattle.bp_inputs.specs.declared.house.OpenHotel.{OpenHotel}
+use Rattle.bp_inputs.proofs.StageLemmas.{follows_both, follows_first, follows_stage, follows_stop, follows_made, follows_nothing, leaves_same}
 use Rattle.bp_run.proofs.EndLemmas.{brings_stop, brings_answer}
-use Rattle.bp_run.proofs.HotelHouse.{is_opened}
+use Rattle.bp_inputs.proofs.HotelHouse.{is_opened}
 use Rattle.bp_run.proofs.commands.report.answer.Goals as goal
 
 pub returns-in_err-open : goal.returns-in_err-open

@@ -1,7 +1,7 @@
 use Rattle.std.proofs.Common.{refl}
 use Rattle.std.proofs.lemmas.Result.{err_from_is_err_and}
 use Rattle.bp_run.specs.Scenarios.{scenarios_command}
-use Rattle.bp_run.proofs.StageLemmas.{follows_stage, follows_stop, follows_made, follows_nothing, leaves_same}
+use Rattle.bp_inputs.proofs.StageLemmas.{follows_stage, follows_stop, follows_made, follows_nothing, leaves_same}
 use Rattle.bp_run.proofs.EndLemmas.{brings_stop, brings_answer}
 use Rattle.bp_run.proofs.commands.scenarios.answer_alone.Goals as goal
 

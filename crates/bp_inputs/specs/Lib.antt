@@ -1,0 +1,11 @@
+pub mod Stages
+pub mod Fetches
+pub mod Unread
+pub mod Stops
+pub mod TextFiles
+pub mod HotelFiles
+pub mod HotelPlan
+pub mod JournalFiles
+pub mod ScriptFiles
+pub mod ScenarioFiles
+pub mod ListFiles

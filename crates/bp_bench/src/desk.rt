@@ -1,3 +1,4 @@
+//! A desk of one thread: the book of a busy hotel, and the boards that it is given.
 ghost use Rattle.std.specs.Prelude.{◌≡◌, ◌<◌, length, map, IfOk};
 ghost use Rattle.std.specs.List.{range_with_len};
 ghost use Rattle.std.specs.Arc.{arc_value};

@@ -1,3 +1,4 @@
+//! Numbers drawn by two generators, which the scripts and the programs in C++ have too.
 ghost use Rattle.std.specs.Prelude.{◌<◌};
 
 /// The generator of Park and Miller, of which the scripts make the same problems.

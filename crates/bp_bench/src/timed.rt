@@ -1,3 +1,4 @@
+//! What a part of the program tells: a time, and a number that does not depend on it.
 use std::test::Fail;
 use std::time::{Clock, Instant};
 

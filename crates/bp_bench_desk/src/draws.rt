@@ -1,3 +1,4 @@
+//! Numbers drawn by a generator that the program in C++ has too.
 ghost use Rattle.std.specs.Prelude.{◌<◌};
 
 /// The linear congruential generator of Knuth, of which the program in C++ makes the same calls.

@@ -1,3 +1,4 @@
+//! What a part of the program tells: a figure, and a number that depends neither on time nor on the order of threads.
 use std::alloc::Global;
 use std::test::Fail;
 

@@ -88,5 +88,5 @@ int main(int, char **words) {
             time += std::chrono::steady_clock::now() - posting;
         }
     }
-    std::printf("%lld %llu\n", static_cast<long long>(time.count()), static_cast<unsigned long long>(sum));
+    std::printf("book %lld %llu\n", static_cast<long long>(time.count()), static_cast<unsigned long long>(sum));
 }

@@ -69,5 +69,5 @@ int main(int count, char **words) {
         time += std::chrono::steady_clock::now() - start;
         for (const Worker &worker : workers) accepted += worker.accepted;
     }
-    std::printf("%lld %llu\n", static_cast<long long>(time.count()), static_cast<unsigned long long>(accepted));
+    std::printf("shared %lld %llu\n", static_cast<long long>(time.count()), static_cast<unsigned long long>(accepted));
 }

@@ -1,27 +1,30 @@
 #!/usr/bin/env bash
-# Refuses the readers of a hotel's files each of their allocations in turn. It wants rt and gcc.
+# Refuses the readers of a hotel's files each of their allocations in turn: bench/files_without_memory.sh
+# It wants the program and gcc.
 #
-# A small program reads the five files of examples/lindenhof, and files that are refused. With one allocation refused it
-# must end with status 6 and print nothing, or with its own status and its own whole answer.
+# A desk opens on the files of examples/lindenhof, and on files that are refused. With one allocation refused the program
+# must end with status 6 and a first part of its answer, or with its own status and its own whole answer.
 set -u
 here="$(cd "$(dirname "${BASH_SOURCE[0]}")" && pwd)"
-files="$(dirname "$here")/examples/lindenhof"
+top="$(dirname "$here")"
+files="$top/examples/lindenhof"
+program="${BIDPRICE:-$top/crates/bidprice/out/bidprice}"
 work="$(mktemp -d)"
 trap 'rm -rf "$work"' EXIT
 
-"$here/build_house.sh" "$work" || exit 1
+[ -x "$program" ] || { echo "$program is not there: a first call of ./bidprice builds it"; exit 1; }
 gcc -O2 -shared -fPIC -o "$work/refuse.so" "$here/refuse.c" -ldl || exit 1
 
-# Reads these files with each allocation refused in turn, until there is none more to refuse.
+# Opens a desk on these files with each allocation refused in turn, until there is none more to refuse.
 refuse_each() {
     local answer status said ended nth=0
-    answer="$("$work/house" "$@")"
+    answer="$("$program" desk "$@" --workers 0)"
     status=$?
     while :; do
         nth=$((nth + 1))
-        said="$(REFUSE=$nth LD_PRELOAD="$work/refuse.so" "$work/house" "$@" 2> "$work/refused")"
+        said="$(REFUSE=$nth LD_PRELOAD="$work/refuse.so" "$program" desk "$@" --workers 0 2> "$work/refused")"
         ended=$?
-        if [ "$ended" -eq 6 ] && [ -z "$said" ] && [ -s "$work/refused" ]; then
+        if [[ $ended -eq 6 && $answer == "$said"* && -s $work/refused ]]; then
             continue
         elif [ "$ended" -ne "$status" ] || [ "$said" != "$answer" ]; then
             printf '%s\nallocation %s was refused, and the program ended with status %s\n' "$said" "$nth" "$ended"
@@ -37,7 +40,8 @@ hotel="$files/hotel.toml"
 stays="$files/stays.csv"
 forecast="$files/forecast.csv"
 bookings="$files/bookings.csv"
-script="$files/script.csv"
+script="$work/script-of-one-session.csv"
+sed '2,$ s/^[^,]*,/1,/' "$files/script.csv" > "$script"
 { cat "$hotel"; printf '\n[[night]]\ndate = "2025-07-16"\nrooms = 1\n'; } > "$work/hotel.toml"
 { cat "$stays"; printf 'JUL01-1,2025-07-02,1,8900,\n'; } > "$work/stays.csv"
 { cat "$forecast"; printf 'JUL99-1,3\n'; } > "$work/forecast.csv"

@@ -21,6 +21,15 @@ def program():
     return path
 
 
+def bench_program(name):
+    """The built program of a crate that these scripts time, which is built where it is missing or old."""
+    line = 'here="$1"; . "$here/beside.sh"; find_program "$2" >&2; echo "$program"'
+    done = subprocess.run(["bash", "-euc", line, "-", HERE, name], stdout=subprocess.PIPE, text=True)
+    if done.returncode:
+        sys.exit(f"{name} is not there")
+    return done.stdout.strip()
+
+
 def build(name):
     """Builds one of the C programs beside this script."""
     os.makedirs(FOLDER, exist_ok=True)

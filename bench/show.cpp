@@ -82,5 +82,5 @@ int main(int, char **words) {
         if (fell[thread]) return 1;
         rate += rates[thread];
     }
-    std::printf("%.0f %llu\n", rate, static_cast<unsigned long long>(display.look(0, 2).number));
+    std::printf("looks %.0f %llu\n", rate, static_cast<unsigned long long>(display.look(0, 2).number));
 }

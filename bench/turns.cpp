@@ -1,6 +1,6 @@
 // The same work as the history lock's program in turns.sh, under std::mutex: turns THREADS ENTRIES
 // Each thread adds pairs of its number and a count to one list until it has ENTRIES of them. It prints the
-// nanoseconds that this took, and how many entries the thread with the fewest added.
+// nanoseconds that this took with how many entries there are, and how many the thread with the fewest added.
 #include <algorithm>
 #include <chrono>
 #include <cstdint>
@@ -32,6 +32,7 @@ int main(int, char **words) {
     for (unsigned caller = 0; caller < threads; caller++) workers.emplace_back(work, caller);
     for (auto &worker : workers) worker.join();
     const std::chrono::nanoseconds time = std::chrono::steady_clock::now() - start;
-    std::printf("%lld %llu\n", static_cast<long long>(time.count()),
-                static_cast<unsigned long long>(*std::min_element(turns.begin(), turns.end())));
+    const auto fewest = *std::min_element(turns.begin(), turns.end());
+    std::printf("turns %lld %zu\n", static_cast<long long>(time.count()), pairs.size());
+    std::printf("fewest %llu %u\n", static_cast<unsigned long long>(fewest), threads);
 }

@@ -138,6 +138,20 @@ fn expect_bands<R: Abort>(rt: &R, alloc: Global, rooms: &[u64], stays: &[Stay]) 
     Ok(())
 }
 
+/// The rooms of a night that may have none.
+fn up_to_two(number: usize) -> u64
+    ensures { result ≤ MOST_ROOMS }
+{
+    (number % 3) as u64
+}
+
+/// The rooms of a night that has some.
+fn one_or_two(number: usize) -> u64
+    ensures { result ≤ MOST_ROOMS }
+{
+    (1 + number % 2) as u64
+}
+
 const RATES: [u64; 2] = [1, 3];
 
 /// One of the eighteen stays of two nights, whose forecast may be 0.
@@ -153,7 +167,7 @@ fn stay_of_two(number: usize) -> Stay {
 #[test]
 fn every_instance_of_two_nights_and_two_stays(rt: HostRuntime) -> Result<(), Fail> {
     for number in 0..9 * 18 * 18usize {
-        let rooms = [(number % 3) as u64, (number / 3 % 3) as u64];
+        let rooms = [up_to_two(number), up_to_two(number / 3)];
         let stays = [stay_of_two(number / 9 % 18), stay_of_two(number / 162)];
         expect_bands(&rt, rt.alloc(), &rooms, &stays)?;
     }
@@ -179,9 +193,9 @@ fn every_instance_of_three_nights_and_three_stays(rt: HostRuntime) -> Result<(),
             continue;
         }
         let rooms = [
-            (1 + number % 2) as u64,
-            (1 + number / 2 % 2) as u64,
-            (1 + number / 4 % 2) as u64,
+            one_or_two(number),
+            one_or_two(number / 2),
+            one_or_two(number / 4),
         ];
         let stays = [
             stay_of_three(places[0]),

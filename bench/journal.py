@@ -37,7 +37,7 @@ class Blocks(House):
 
 
 def year(commands, groups=0.0):
-    """A house of 120 rooms a night, with nearly a thousand vectors whatever its commands, if they are 20,000 or more."""
+    """A house of 120 rooms a night, with nearly a thousand vectors where there are 20,000 commands or more."""
     # Of a hundred commands some 87 are changes, and a few more where the script is short.
     stale_after = max(20, commands * 88 // 100_000 + 2)
     return House(commands, nights=365, rooms=120, stays=3000, stale_after=stale_after, groups=groups)

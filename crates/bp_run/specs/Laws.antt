@@ -33,6 +33,6 @@ RunsAreLegal =
     → IsAnswered (Some later) (ruling_command (replay_plan names journal)) ruling
     → ruling ≡ Legal (length ran.book.history)
 
--- no line that asks for a task ends as one that asks for none
-abbrev pub PlainLinesAreServed : Type 0
-PlainLinesAreServed = (words : List Word) (shelf : Fetches) → AreServed words → HasEnd words shelf NotPlain → ⊥
+-- a line that asks for a task does not end as one that asks for none
+abbrev pub IsNotPassedOver : List Word → Fetches → Type 0
+IsNotPassedOver words shelf = AreServed words → HasEnd words shelf NotPlain → ⊥

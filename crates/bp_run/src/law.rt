@@ -1,6 +1,10 @@
 //! Laws over what commands answer, as the contracts of functions that do nothing.
 
-ghost use Rattle.bp_run.specs.Laws.{PlainLinesAreServed, RunsAreLegal};
+ghost use Rattle.bp_cli.specs.Words.{texts};
+ghost use Rattle.bp_inputs.specs.Fetches.{over};
+ghost use Rattle.bp_run.specs.Laws.{IsNotPassedOver, RunsAreLegal};
+
+use bp_edges::Shelf;
 
 /// The journal that a desk wrote is legal by `replay` of the same four files.
 pub fn runs_are_legal()
@@ -15,7 +19,7 @@ pub fn runs_are_legal()
     bp_judge::law::not_both();
 }
 
-/// No line that asks for a task is answered by the usage text.
-pub fn plain_lines_are_served()
-    ensures { PlainLinesAreServed }
+/// No line that asks for a task is answered by the usage text, whatever the shelf holds.
+pub fn plain_lines_are_served<S: Shelf>(words: &[String], shelf: &S)
+    ensures { IsNotPassedOver (texts words.now) (over S.held S.faults S.fetches S.last S.steady shelf.now shelf.now) }
 {}

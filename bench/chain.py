@@ -8,8 +8,8 @@ missing is left out, and said to be. COUNT (200) hotels are made by examples/cha
 that is refused. Each way runs them from nothing with 1, 2 and so on up to as many processes at once as there are
 processors, and each journal has to be legal.
 
-Before that, a hotel's `replay` is stood in for by one that ends without a word, and then by one that calls the journal
-illegal: the table has to tell either, and what it told of the others; and a call after that has to mend the first.
+Before that, of three hotels, one's `replay` is stood in for by one that calls the journal illegal, and then by one that
+ends without a word: the table has to tell either, and of the others what it told before. A call after that mends it.
 
 Then, each way: one hotel gets a script of 40,000 commands, and its job is ended half way, by a signal that cannot be
 caught; the others have to have what they had, byte for byte, and the table has to say which hotel has no journal and

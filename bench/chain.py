@@ -8,6 +8,9 @@ missing is left out, and said to be. COUNT (200) hotels are made by examples/cha
 that is refused. Each way runs them from nothing with 1, 2 and so on up to as many processes at once as there are
 processors, and each journal has to be legal.
 
+Before that, of three hotels, one's `replay` is stood in for by one that calls the journal illegal, and then by one that
+ends without a word: the table has to tell either, and of the others what it told before. A call after that mends it.
+
 Then, each way: one hotel gets a script of 40,000 commands, and its job is ended half way, by a signal that cannot be
 caught; the others have to have what they had, byte for byte, and the table has to say which hotel has no journal and
 why. The script is called again: that hotel has its journal, and no other file has changed. Last, the refused hotel's
@@ -29,9 +32,16 @@ WAYS = {"parallel": "parallel", "slurm": "slurmctld"}
 LONG = 40_000
 
 
-def call(name, *words, **how):
-    env = {**os.environ, "BIDPRICE": program()}
-    return subprocess.run([os.path.join(CHAIN, name), *words], capture_output=True, text=True, env=env, **how)
+# A program whose `replay` is another.
+STAND_IN = """#!/bin/sh
+[ "$1" = replay ] || exec "{program}" "$@"
+{replay}
+"""
+
+
+def call(name, *words, by=None):
+    env = {**os.environ, "BIDPRICE": by or program()}
+    return subprocess.run([os.path.join(CHAIN, name), *words], capture_output=True, text=True, env=env)
 
 
 def table(folder):
@@ -56,8 +66,8 @@ def results(folder, but=()):
     return found
 
 
-def forget(folder):
-    for hotel in hotels_of(folder):
+def forget(folder, hotels=None):
+    for hotel in hotels or hotels_of(folder):
         for name in ("journal", "row", "said", "journal.part"):
             if os.path.exists(os.path.join(folder, hotel, name)):
                 os.remove(os.path.join(folder, hotel, name))
@@ -169,7 +179,39 @@ def survive(way, folder):
     print(f"{way}: {refused} mended and {again} run again; {last}", flush=True)
 
 
+def otherwise_replayed(folder):
+    """A journal that cannot be replayed, and one that is called illegal; and the hotel called again."""
+    hotels = hotels_of(folder)
+    for hotel in hotels:
+        call("hotel.sh", os.path.join(folder, hotel))
+    told, legal = table(folder)[0], len(hotels) - 1
+    here, stand_in = os.path.join(folder, hotels[0]), os.path.join(FOLDER, "stand-in")
+    journal = os.path.join(here, "journal")
+    for replay, wanted, kept in (
+        ("echo illegal 7 reply; exit 1", "illegal 7 reply", True),
+        ("exit 6", "the journal could not be replayed", False),
+    ):
+        with open(stand_in, "w") as out:
+            out.write(STAND_IN.format(program=os.path.abspath(program()), replay=replay))
+        os.chmod(stand_in, 0o755)
+        forget(folder, hotels[:1])
+        call("hotel.sh", here, by=stand_in)
+        said, last = table(folder)
+        expect(said == {**told, hotels[0]: wanted}, f"`{replay}` for a replay: {said}")
+        expect(last.startswith(f"{legal - 1} of"), f"`{replay}` for a replay: {last}")
+        expect(os.path.exists(journal) == kept, f"`{replay}` for a replay: the journal is there or not")
+        print(f"`{replay}` for a replay: {hotels[0]} '{said[hotels[0]]}'; {last}", flush=True)
+    call("hotel.sh", here)
+    said, last = table(folder)
+    expect(said[hotels[0]].startswith("legal "), f"called again, the hotel has {said[hotels[0]]}")
+    expect(last.startswith(f"{legal} of"), f"called again: {last}")
+
+
 def main():
+    few = os.path.join(FOLDER, "chain-few")
+    shutil.rmtree(few, ignore_errors=True)
+    call("make.py", few, "3")
+    otherwise_replayed(few)
     count = sys.argv[1] if len(sys.argv) > 1 else "200"
     for way, wants in WAYS.items():
         if not shutil.which(wants):

@@ -5,8 +5,8 @@
 
 It wants gcc, glpsol (Debian's glpk-utils) for the certificates, and the program, which `./bidprice` builds at its
 first call. Files are made in out/bench. Each command is timed whole, the best of 40 runs, in turn with the other.
-It fails where `check` takes more than three times as long on 400 nights and 4,000 stays, or more memory than four
-times the texts and 8 MiB.
+It fails where `check` takes more than 1.5 times as long on 400 nights and 4,000 stays, or more memory than four times
+the texts and 8 MiB.
 """
 import os
 import subprocess
@@ -70,8 +70,8 @@ def main():
         with open(said) as answered:
             answer = answered.read().strip()
         print(f"{stays:>6}{size:>9}{min(check):>8.2f}ms{min(adding):>8.2f}ms{ratio:>8.2f}{most:>10}  {answer}")
-    if ratio > 3:
-        sys.exit("check takes more than three times as long")
+    if ratio > 1.5:
+        sys.exit("check takes more than 1.5 times as long")
     if most * 1024 > 4 * size + 8 * 1024 * 1024:
         sys.exit("check takes too much memory")
 

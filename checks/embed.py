@@ -2,10 +2,10 @@
 """Compares the calls of the library for C, and the Python module over it, with the program's commands, byte for byte.
 
 The library is built as it ships, by both of the kit's compilers. The calls answer the examples, random problems,
-spoiled texts and empty ones, each with buffers too short by one and too long; then they run under the address sanitizer
-and under valgrind, and with each request for memory refused in turn. The module is installed by pip, and the script
-that draws the spread of prices is run. Wants the kit's `rt` and gcc; valgrind, numpy and matplotlib where they are
-there.
+spoiled texts and empty ones, each with buffers too short by one and too long. They answer all of them once more under
+the address sanitizer, the examples and a few of the others under valgrind, and one of each call with each request for
+memory refused in turn. The module is installed by pip, and the script that draws the spread of prices is run. Wants the
+kit's `rt` and gcc; valgrind, numpy and matplotlib where they are there.
 
     checks/embed.py [PROBLEMS]      how many random problems, 1000 where none is said
 """
@@ -135,6 +135,8 @@ def changes_of(chance, nights, stays):
 def cases_of(chance, rooms, rows, certificate):
     """What is asked of one problem."""
     problem = problem_text(rooms, rows).encode()
+    vector = b"\n".join(certificate.split(b"\n")[1:4])
+    journal = b"journal 2\n0 0 publish 0 vector 0\n" + vector + b"\nend\n"
     return [
         Case("numbers", [problem], problem=(rooms, rows)),
         Case("solve", [problem]),
@@ -142,6 +144,8 @@ def cases_of(chance, rooms, rows, certificate):
         Case("check", [problem, spoiled(chance, certificate)]),
         Case(chance.choice(["solve", "sheet"]), [spoiled(chance, problem)]),
         Case("group", [problem], group_of(chance, len(rooms))),
+        Case("judge", [problem, journal]),
+        Case("judge", [problem, spoiled(chance, journal)]),
         Case("scenarios", [problem, changes_of(chance, len(rooms), len(rows))]),
         Case("sheet", [problem]),
     ]
@@ -274,7 +278,7 @@ def check_library(tally, name, options, cases, few, folder):
     compare_module(tally, name, cases, folder, library)
     # The blocks of the calls are counted by the program itself; its own buffers live to its end.
     checked = compiled(folder, f"checked_{name}", library, "-fsanitize=address")
-    compare(tally, f"{name} under the address sanitizer", few, [checked], ASAN_OPTIONS="detect_leaks=0")
+    compare(tally, f"{name} under the address sanitizer", cases, [checked], ASAN_OPTIONS="detect_leaks=0")
     if shutil.which("valgrind"):
         before = ["valgrind", "-q", "--error-exitcode=90", "--leak-check=no", calls]
         compare(tally, f"{name} under valgrind", few, before)

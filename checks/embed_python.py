@@ -68,15 +68,31 @@ def numbers_of(rooms, stays, text):
 
 
 LIMITS = [
-    ([], [], "no night", 0),
-    ([1] * 401, [], "too many nights", 0),
-    ([1], [(0, 1, 1, 1)] * 4001, "too many stays", 0),
-    ([1, 1000001], [], "rooms", 1),
-    ([1], [(0, 1, 1, 1), (0, 2, 1, 1)], "span", 1),
-    ([1], [(0, 0, 1, 1)], "span", 0),
-    ([1], [(0, 1, 0, 1)], "rate", 0),
-    ([1], [(0, 1, 1000000001, 1)], "rate", 0),
-    ([1], [(0, 1, 1, 1000001)], "forecast", 0),
+    ([], [], "NoNights", "no night", 0),
+    ([1] * 401, [], "TooManyNights", "too many nights", 0),
+    ([1], [(0, 1, 1, 1)] * 4001, "TooManyStays", "too many stays", 0),
+    ([1, 1000001], [], "Rooms", "rooms", 1),
+    ([1], [(0, 1, 1, 1), (0, 2, 1, 1)], "SpanOut", "span", 1),
+    ([1], [(0, 0, 1, 1)], "SpanOut", "span", 0),
+    ([1], [(0, 1, 0, 1)], "Rate", "rate", 0),
+    ([1], [(0, 1, 1000000001, 1)], "Rate", "rate", 0),
+    ([1], [(0, 1, 1, 1000001)], "Forecast", "forecast", 0),
+]
+
+NIGHT = b"problem 1\nnights 1\nrooms 2\nstays 0\nend\n"
+
+# A call and what it is given; the exception, and its file, line and night.
+REFUSED = [
+    ("solve_text", (b"problem 2\n",), "BadLine", 1, 1, None),
+    ("solve_text", (b"problem 1\nnights 401\n",), "Limit", 1, 2, None),
+    ("sheet", (NIGHT[:-1],), "TooShort", 1, None, None),
+    ("sheet", (NIGHT + b" ",), "Trailing", 1, 6, None),
+    ("solve_text", (b" " * (16 * 1024 * 1024 + 1),), "TooLong", 1, None, None),
+    ("check", (NIGHT, b"certificate 1\nvalue 0250\n"), "BadLine", 2, 2, None),
+    ("judge", (NIGHT, b""), "TooShort", 2, None, None),
+    ("scenarios", (NIGHT, b"scenarios 1\nscenario\nrooms 0 2 up 1\n"), "Limit", 2, 3, None),
+    ("group", (NIGHT, 1, 1, 1), "BadSpan", None, None, None),
+    ("group", (NIGHT, 0, 1, 3), "NoRoom", None, None, 0),
 ]
 
 
@@ -91,9 +107,13 @@ def main():
         function = bidprice.solve_text if call == "solve" else getattr(bidprice, call)
         found = answered(function, *given, *case["numbers"])
         same(call, found, (2, None) if wanted[0] == 2 else wanted)
-    for rooms, stays, limit, place in LIMITS:
+    for rooms, stays, name, limit, place in LIMITS:
         refused = raised(bidprice.LimitRefused, bidprice.solve, rooms, stays)
-        same("limit", (refused.limit, refused.place), (limit, place))
+        same("limit", (type(refused), refused.limit, refused.place), (getattr(bidprice, name), limit, place))
+    for call, given, name, *fields in REFUSED:
+        refused = raised(bidprice.Refused, getattr(bidprice, call), *given)
+        same("refusal", type(refused), getattr(bidprice, name))
+        same("what it names", [refused.file, refused.line, refused.night], fields)
     changes = [[], [("rooms", 1, 2, -1)], [("rooms", 1, 2, -2)], [("rate", 0, 200)]]
     found = bidprice.what_if([2, 1, 2], [(0, 2, 100, 3), (1, 3, 150, 1), (0, 1, 60, 1), (2, 3, 40, 5)], changes)
     wanted = [(250, [0, 100, 40], None), (140, [0, 110, 40], None), (None, (), 1), (340, [60, 140, 40], None)]

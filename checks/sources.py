@@ -1,5 +1,6 @@
 #!/usr/bin/env python3
-"""Looks whether docs/desk.md shows the program that is tested, and whether its test reads the files of the example.
+"""Looks whether docs/desk.md and docs/displays.md show the programs that are tested, and whether the first one's test
+reads the files of the example.
 
 Wants Python's standard library alone.
 """
@@ -18,6 +19,10 @@ def main():
     day = (SOURCES / "day.rt").read_text("utf-8")
     program = day[day.index("/// Two callers at one desk, from") :]
     tally.holds("the program in docs/desk.md", indent(program, "    ") in page, "day.rt has another one")
+    page = (TOP / "docs" / "displays.md").read_text("utf-8")
+    evening = (TOP / "crates" / "bp_show_tests" / "src" / "evening.rt").read_text("utf-8")
+    program = evening[evening.index("/// The stay that is booked.") :]
+    tally.holds("the program in docs/displays.md", program in page, "evening.rt has another one")
     test = (SOURCES / "lindenhof.rt").read_text("utf-8")
     for name in FILES:
         text = (EXAMPLE / name).read_text("utf-8").replace("\\", "\\\\").replace('"', '\\"')

@@ -15,10 +15,13 @@ def row_of(folder):
     try:
         with open(os.path.join(folder, "row")) as file:
             status, entries, vectors, value, taken, verdict = file.read().strip().split(" ", 5)
+            seconds = f"{int(taken) / 1000:.2f}"
     except FileNotFoundError:
         begun = os.path.exists(os.path.join(folder, "said"))
         return ["-", "-", "-", "-", "-", "ended half way: call the script again" if begun else "not run yet"]
-    return [status, entries, vectors, value, f"{int(taken) / 1000:.2f}", verdict]
+    except ValueError:
+        return ["-", "-", "-", "-", "-", "not a whole row: remove it, and call the script again"]
+    return [status, entries, vectors, value, seconds, verdict]
 
 
 def main():

@@ -3,7 +3,7 @@
 #
 #     hotel.sh FOLDER/HOTEL
 #
-# A hotel that has its journal is left as it is; one without, refused or ended half way, begins anew. The journal and the
+# A hotel that has its journal is left as it is; one without, refused, ended half way or not replayed, begins anew. The journal and the
 # row come by a rename, so a run that is ended half way leaves neither. BIDPRICE names the program where it is not this
 # repository's.
 here=$(dirname -- "$(readlink -f -- "$0")")
@@ -21,10 +21,12 @@ case $status in
 0 | 7)
     # shellcheck disable=SC2086
     verdict=$("$program" replay $files journal.part)
-    entries=${verdict#legal }
+    case $verdict in
+    "legal "*) entries=${verdict#legal } ;;
+    esac
     vectors=$(grep -c '^value ' journal.part)
     value=$(grep '^value ' journal.part | tail -n 1 | cut -d ' ' -f 2)
-    mv journal.part journal
+    if [ "$verdict" ]; then mv journal.part journal; else verdict="the journal could not be replayed"; fi
     ;;
 2) verdict="the words are no line" ;;
 3 | 4) verdict=$(head -n 1 journal.part) ;;
@@ -34,5 +36,4 @@ case $status in
 esac
 rm -f journal.part
 taken=$((($(date +%s%N) - begin) / 1000000))
-echo "$status $entries $vectors $value $taken $verdict" >row.part
-mv row.part row
+echo "$status $entries $vectors $value $taken $verdict" >row.part && mv row.part row

@@ -14,7 +14,7 @@ import ctypes
 import os
 from ctypes import POINTER, addressof, byref, c_char, c_char_p, c_size_t, c_uint32, c_uint64, c_void_p, string_at
 from pathlib import Path
-from typing import Iterable, List, NamedTuple, Optional, Sequence, Tuple
+from typing import Iterable, List, NamedTuple, Optional, Sequence, Tuple, Union
 
 try:
     import numpy
@@ -22,7 +22,10 @@ except ImportError:
     numpy = None
 
 __all__ = [
-    "BidpriceError", "NoMemory", "LengthsDiffer", "Usage", "Refused", "LimitRefused", "Certificate", "Answer",
+    "BidpriceError", "NoMemory", "LengthsDiffer", "Usage",
+    "Refused", "BadLine", "Limit", "TooShort", "Trailing", "TooLong", "BadSpan", "NoRoom",
+    "LimitRefused", "NoNights", "TooManyNights", "TooManyStays", "Rooms", "SpanOut", "Rate", "Forecast",
+    "Certificate", "Answer", "Column",
     "solve", "solve_columns", "problem_text", "solve_text", "check", "group", "judge", "sheet",
     "Outcome", "what_if", "scenarios_text", "scenarios",
 ]
@@ -45,7 +48,43 @@ class Usage(BidpriceError, ValueError):
 
 
 class Refused(BidpriceError, ValueError):
-    """A text is refused, or what is asked of it. The message is the command's line."""
+    """A text is refused, or what is asked of it. The message is the command's line.
+
+    `file` counts the call's texts from 1, `line` the lines of that text, and `night` is one of a group. A refusal has
+    what its line names, and None for the others.
+    """
+
+    file: Optional[int] = None
+    line: Optional[int] = None
+    night: Optional[int] = None
+
+
+class BadLine(Refused):
+    """A line of a text has not the form of its place."""
+
+
+class Limit(Refused):
+    """A number on a line of a text is outside its limit."""
+
+
+class TooShort(Refused):
+    """A text ends before its last line does."""
+
+
+class Trailing(Refused):
+    """Bytes follow the end of a text; `line` is the one behind it."""
+
+
+class TooLong(Refused):
+    """A text is longer than a file of its kind may be."""
+
+
+class BadSpan(Refused):
+    """The nights of a group are none of the problem's."""
+
+
+class NoRoom(Refused):
+    """A night of a group has fewer rooms: `night` is the first."""
 
 
 class LimitRefused(Refused):
@@ -56,6 +95,54 @@ class LimitRefused(Refused):
     def __init__(self, limit: int, place: int):
         self.limit, self.place = self.NAMES[limit], place
         super().__init__(f"{self.limit} {place}" if limit > 3 else self.limit)
+
+
+class NoNights(LimitRefused):
+    """There is no night."""
+
+
+class TooManyNights(LimitRefused):
+    """There are more than 400 nights."""
+
+
+class TooManyStays(LimitRefused):
+    """There are more than 4,000 stays."""
+
+
+class Rooms(LimitRefused):
+    """The night `place` has more than 1,000,000 units of rooms."""
+
+
+class SpanOut(LimitRefused):
+    """The stay `place` does not arrive before it departs, or departs behind the last night."""
+
+
+class Rate(LimitRefused):
+    """The rate of the stay `place` is not 1 to 1,000,000,000."""
+
+
+class Forecast(LimitRefused):
+    """The forecast of the stay `place` is above 1,000,000 units."""
+
+
+# By the number of the limit, and by the command's word.
+_LIMITS = (LimitRefused, NoNights, TooManyNights, TooManyStays, Rooms, SpanOut, Rate, Forecast)
+_CAUSES = {"badline": BadLine, "limit": Limit, "tooshort": TooShort, "trailing": Trailing, "toolong": TooLong}
+
+
+def _refusal(said: str) -> Refused:
+    """The exception of a command's line."""
+    word, *rest = said.split(" ")
+    if word == "noroom":
+        error = NoRoom(said)
+        error.night = int(rest[0])
+    elif rest == ["span"]:
+        error = BadSpan(said)
+    else:
+        file, cause, *line = rest
+        error = _CAUSES.get(cause, Refused)(said)
+        error.file, error.line = int(file), int(line[0]) if line else None
+    return error
 
 
 class Certificate(NamedTuple):
@@ -85,6 +172,10 @@ class Outcome(NamedTuple):
     value: Optional[int]
     prices: Sequence[int]
     refused: Optional[int] = None
+
+
+# Whole numbers in order: a list, an array of the module array, or one of numpy.
+Column = Union[Iterable[int], "numpy.ndarray"]
 
 
 class _Refusal(ctypes.Structure):
@@ -150,12 +241,12 @@ def _as_words(numbers, kind):
     return numpy.ascontiguousarray(numbers, kind)
 
 
-def solve_columns(rooms, arrive, depart, rate, forecast) -> Certificate:
+def solve_columns(rooms: Column, arrive: Column, depart: Column, rate: Column, forecast: Column) -> Certificate:
     """The certificate of columns, with the least prices: rooms by night, and a row of the other four for each stay.
 
     Arrays of numpy give arrays of numpy, and are not copied where they are uint64 (rooms, rate, forecast) and uint32
     (arrive, depart) in one piece. Other sequences of whole numbers give lists; arrays of the module array are not
-    copied where their codes are Q and I, likewise. Raises LimitRefused where a limit refuses the numbers, and
+    copied where their codes are Q and I, likewise. Raises the LimitRefused of the limit that refuses the numbers, and
     LengthsDiffer where the columns have not one length.
     """
     rooms, rooms_at, nights = _column(rooms, "Q")
@@ -178,7 +269,7 @@ def solve_columns(rooms, arrive, depart, rate, forecast) -> Certificate:
     if status == 0:
         return Certificate(value.value, *((sell, prices) if as_arrays else (sell.tolist(), prices.tolist())))
     if status == 3:
-        raise LimitRefused(refused.limit, refused.place)
+        raise _LIMITS[refused.limit](refused.limit, refused.place)
     raise NoMemory() if status == 6 else LengthsDiffer("the columns have not one length")
 
 
@@ -218,7 +309,7 @@ def _accepted(answer: Answer) -> Answer:
     if answer.status == 2:
         raise Usage("numbers of a group that no line of the command may have")
     if answer.status == 3:
-        raise Refused(answer.text.decode().rstrip("\n"))
+        raise _refusal(answer.text.decode().rstrip("\n"))
     return answer
 
 

@@ -21,6 +21,7 @@ pub(crate) fn settings() -> &'static [(&'static str, &'static str)] {
         ("ten", "stale_after = 10\n"),
         ("two-entries", "stale_after = 10\nentries = 2\n"),
         ("one-vector", "stale_after = 2\npublications = 1\n"),
+        ("one-vector-of-ten", "stale_after = 10\npublications = 1\n"),
         ("ten-vectors", "stale_after = 2\npublications = 10\n"),
         ("hundredths", "stale_after = 10\nunit = 100\n"),
         ("tenths", "stale_after = 10\nunit = 10\n"),

@@ -15,6 +15,13 @@ pub(crate) fn alone() -> &'static [Run] {
         ("H1 S F B", "three-calls", 7, ONE_CALL),
         ("two-entries S F B", "three-calls", 7, TWO_ENTRIES),
         ("one-vector S F B", "three-calls", 7, ONE_VECTOR),
+        // All calls are made, and no vector is left for the changes behind the first.
+        (
+            "one-vector-of-ten S F B",
+            "three-calls",
+            7,
+            NO_CLOSING_VECTOR,
+        ),
         ("ten S F B", "nothing", 0, NOTHING),
         ("ten S F B", "cancels", 0, CANCELS),
         // The rooms of a night can be no fewer than are sold.
@@ -51,7 +58,8 @@ pub(crate) fn beside_two_workers() -> &'static [RunBeside] {
     ]
 }
 
-const TWO_ENTRIES: &str = "journal 2
+/// What one session makes of the script `three-calls` where the house allows two entries of commands.
+pub(crate) const TWO_ENTRIES: &str = "journal 2
 0 0 publish 0 vector 0
 value 250
 sell 0 1 1 1
@@ -76,6 +84,19 @@ prices 0 100 40
 2 1 book 0 accepted 0 100
 3 1 book 1 noroom 0 140 1
 4 1 leave done
+end
+";
+
+const NO_CLOSING_VECTOR: &str = "journal 2
+0 0 publish 0 vector 0
+value 250
+sell 0 1 1 1
+prices 0 100 40
+1 1 enrol done
+2 1 book 0 accepted 0 100
+3 1 book 1 noroom 0 140 1
+4 1 book 3 accepted 0 40
+5 1 leave done
 end
 ";
 

@@ -1,7 +1,9 @@
 //! The desks of several hotels, over files and a sink in memory.
-use crate::files::{ONE_CALL, THREE_CALLS, files};
-use bp_edges::{Gate, HeldFile, MemoryShelf, MemorySink, NoGate};
-use bp_run::run;
+use crate::desk_lines::TWO_ENTRIES;
+use crate::desks::{all_files, is_legal, served_over};
+use crate::files::THREE_CALLS;
+use crate::tests::held;
+use bp_edges::{Gate, NoGate};
 use std::alloc::{AllocError, Global};
 use std::sync::Wait;
 use std::sync::atomic::AtomicU64;
@@ -13,12 +15,12 @@ use std::thread::Threads;
 fn lists() -> &'static [(&'static str, &'static str)] {
     &[
         (
-            "two",
+            "two-hotels",
             "portfolio 1\nhotels 2\nH2 S F B three-calls\nH2 S F B three-calls\nend\n",
         ),
         (
-            "full",
-            "portfolio 1\nhotels 2\nH1 S F B three-calls\nH2 S F B three-calls\nend\n",
+            "full-history",
+            "portfolio 1\nhotels 2\ntwo-entries S F B three-calls\nH2 S F B three-calls\nend\n",
         ),
         (
             "eight",
@@ -47,18 +49,18 @@ fn served() -> &'static [Line] {
     &[
         // Each hotel has its line and its journal, and the status is that of the worst.
         (
-            "two",
+            "two-hotels",
             0,
             0,
             0,
             &["hotel 1 0\n", THREE_CALLS, "hotel 2 0\n", THREE_CALLS],
         ),
         (
-            "full",
+            "full-history",
             0,
             0,
             7,
-            &["hotel 1 7\n", ONE_CALL, "hotel 2 0\n", THREE_CALLS],
+            &["hotel 1 7\n", TWO_ENTRIES, "hotel 2 0\n", THREE_CALLS],
         ),
         // A file is named by its number among all.
         ("nine", 0, 0, 3, &["refused 1 limit 2\n"]),
@@ -67,48 +69,73 @@ fn served() -> &'static [Line] {
         ("bad-script", 0, 0, 3, &["refused 6 limit 2\n"]),
         ("bad-bookings", 0, 0, 3, &["refused 10 nocode 2\n"]),
         // A name that comes again is fetched again.
-        ("two", 7, 0, 4, &["fault 7\n"]),
-        ("two", 11, 0, 4, &["fault 11\n"]),
+        ("two-hotels", 7, 0, 4, &["fault 7\n"]),
+        ("two-hotels", 11, 0, 4, &["fault 11\n"]),
         // What was written before the sink failed stays.
-        ("two", 0, 1, 5, &[]),
-        ("two", 0, 4, 5, &["hotel 1 0\n", THREE_CALLS, "hotel 2 0\n"]),
+        ("two-hotels", 0, 1, 5, &[]),
+        (
+            "two-hotels",
+            0,
+            4,
+            5,
+            &["hotel 1 0\n", THREE_CALLS, "hotel 2 0\n"],
+        ),
     ]
 }
 
-fn held(alloc: Global, name: &str, text: &str) -> Result<HeldFile, AllocError> {
-    let name = String::from_str(alloc, name)?;
-    let bytes = Vec::from_slice(alloc, text.as_bytes())?;
-    Ok(HeldFile::new(name, bytes))
-}
-
-/// The lists, the files that all tests share, and a journal, on a shelf that fails at one fetch.
-fn shelf(alloc: Global, failing: u64, journal: &str) -> Result<MemoryShelf, AllocError> {
-    let mut shelf = Vec::new(alloc);
-    shelf.push(held(alloc, "journal", journal)?)?;
-    for (name, text) in lists() {
-        shelf.push(held(alloc, name, text)?)?;
-    }
-    for (name, text) in files() {
-        shelf.push(held(alloc, name, text)?)?;
-    }
-    Ok(MemoryShelf::new(shelf, [failing].to_vec(alloc)?))
-}
-
-/// Runs a portfolio with so many workers a hotel.
+/// Runs a portfolio with so many workers a hotel, where one fetch and one put fail: the status, and what is written.
 fn run_list<R: Wait + Threads + Sync, G: Gate>(
     rt: &R,
     alloc: Global,
     list: &str,
-    workers: &str,
-    shelf: &mut MemoryShelf,
-    sink: &mut MemorySink,
+    workers: u64,
+    fetch: u64,
+    put: u64,
     gate: &G,
-) -> Result<u8, AllocError> {
-    let mut words = Vec::new(alloc);
-    for word in ["portfolio", list, "--workers", workers] {
-        words.push(String::from_str(alloc, word)?)?;
+) -> Result<(u8, String), AllocError> {
+    let line = format!(in alloc; "portfolio {list} --workers {workers}")?;
+    let mut files = all_files(alloc, "", b"")?;
+    for (name, text) in lists() {
+        files.push(held(alloc, name, text.as_bytes())?)?;
     }
-    Ok(run(rt, alloc, &words, shelf, sink, gate))
+    served_over(rt, alloc, line.as_str(), files, fetch, put, gate)
+}
+
+/// The lines of a list's hotels.
+fn hotels_of(list: &str) -> &'static str {
+    for (name, text) in lists() {
+        if *name == list {
+            return match text.strip_prefix("portfolio 1\nhotels 2\n") {
+                Some(lines) => lines,
+                None => "",
+            };
+        }
+    }
+    ""
+}
+
+/// Whether `replay` calls each journal of these parts legal on the files of its hotel.
+fn are_legal<R: Wait + Threads + Sync>(
+    rt: &R,
+    alloc: Global,
+    list: &str,
+    parts: &[&str],
+) -> Result<bool, AllocError> {
+    let mut hotels = hotels_of(list).lines();
+    for part in parts {
+        if part.starts_with("journal ") {
+            let Some(files) = hotels.next() else {
+                return Ok(false);
+            };
+            let Some(hotel) = files.strip_suffix(" three-calls") else {
+                return Ok(false);
+            };
+            if !is_legal(rt, alloc, hotel, part)? {
+                return Ok(false);
+            }
+        }
+    }
+    Ok(true)
 }
 
 #[test]
@@ -119,11 +146,10 @@ fn each_portfolio_has_its_status_and_its_text(rt: HostRuntime) -> Result<(), Fai
         for part in *parts {
             text.push_str(part)?;
         }
-        let mut shelf = shelf(alloc, *fetch, "")?;
-        let mut sink = MemorySink::new([*put].to_vec(alloc)?);
-        let got = run_list(&rt, alloc, list, "0", &mut shelf, &mut sink, &NoGate)?;
+        let (got, written) = run_list(&rt, alloc, list, 0, *fetch, *put, &NoGate)?;
         assert!(rt; got == *status, "{list}");
-        assert!(rt; sink.written() == text.as_bytes(), "{list}");
+        assert!(rt; written.as_str() == text.as_str(), "{list}");
+        assert!(rt; are_legal(&rt, alloc, list, parts)?, "{list}");
     }
     Ok(())
 }
@@ -163,9 +189,7 @@ impl Gate for Noted {
 fn a_caller_of_the_second_hotel_passes_the_gate_with_64_more(rt: HostRuntime) -> Result<(), Fail> {
     let alloc = rt.alloc();
     let gate = Noted::new();
-    let mut shelf = shelf(alloc, 0, "")?;
-    let mut sink = MemorySink::new(Vec::new(alloc));
-    let got = run_list(&rt, alloc, "two", "2", &mut shelf, &mut sink, &gate)?;
+    let (got, _) = run_list(&rt, alloc, "two-hotels", 2, 0, 0, &gate)?;
     assert!(rt; got == 0);
     // One session, whose number is 1, and two workers behind it.
     assert!(rt; gate.first.load(SeqCst) == 0b1110);
@@ -179,41 +203,21 @@ fn no_desk_opens_before_all_files_are_read(rt: HostRuntime) -> Result<(), Fail> 
     let alloc = rt.alloc();
     for list in ["no-stays", "bad-bookings"] {
         let gate = Noted::new();
-        let mut shelf = shelf(alloc, 0, "")?;
-        let mut sink = MemorySink::new(Vec::new(alloc));
-        let got = run_list(&rt, alloc, list, "2", &mut shelf, &mut sink, &gate)?;
+        let (got, _) = run_list(&rt, alloc, list, 2, 0, 0, &gate)?;
         assert!(rt; got == 3 || got == 4, "{list}");
         assert!(rt; gate.first.load(SeqCst) == 0, "{list}");
+        assert!(rt; gate.second.load(SeqCst) == 0, "{list}");
+        assert!(rt; gate.others.load(SeqCst) == 0, "{list}");
     }
     Ok(())
-}
-
-/// Whether `replay` calls a journal of the hotel legal.
-fn is_legal<R: Wait + Threads + Sync>(
-    rt: &R,
-    alloc: Global,
-    journal: &str,
-) -> Result<bool, AllocError> {
-    let mut words = Vec::new(alloc);
-    for word in ["replay", "H2", "S", "F", "B", "journal"] {
-        words.push(String::from_str(alloc, word)?)?;
-    }
-    let mut shelf = shelf(alloc, 0, journal)?;
-    let mut sink = MemorySink::new(Vec::new(alloc));
-    Ok(run(rt, alloc, &words, &mut shelf, &mut sink, &NoGate) == 0)
 }
 
 #[test]
 fn eight_hotels_with_two_workers_each_leave_legal_journals(rt: HostRuntime) -> Result<(), Fail> {
     let alloc = rt.alloc();
-    let mut shelf = shelf(alloc, 0, "")?;
-    let mut sink = MemorySink::new(Vec::new(alloc));
-    let got = run_list(&rt, alloc, "eight", "2", &mut shelf, &mut sink, &NoGate)?;
+    let (got, text) = run_list(&rt, alloc, "eight", 2, 0, 0, &NoGate)?;
     assert!(rt; got == 0);
-    let Ok(text) = str::from_utf8(sink.written()) else {
-        return Err("no text".into());
-    };
-    let mut rest = text;
+    let mut rest = text.as_str();
     for hotel in 1..9 {
         let head = format!(in alloc; "hotel {hotel} 0\n")?;
         let Some(behind) = rest.strip_prefix(head.as_str()) else {
@@ -224,7 +228,7 @@ fn eight_hotels_with_two_workers_each_leave_legal_journals(rt: HostRuntime) -> R
         };
         let mut journal = String::from_str(alloc, lines)?;
         journal.push_str("\nend\n")?;
-        assert!(rt; is_legal(&rt, alloc, &journal)?, "{hotel}");
+        assert!(rt; is_legal(&rt, alloc, "H2 S F B", &journal)?, "{hotel}");
         rest = more;
     }
     assert!(rt; rest.is_empty());

@@ -184,6 +184,8 @@ FILES = {
     "session-33": SCRIPT.replace(b"1,book,P0", b"33,book,P0"),
     "run": RUN,
     "list": LIST,
+    "one-hotel-twice": LIST.replace(b"one-vector", b"stale-hotel"),
+    "no-second-script": LIST.replace(b"script\nend", b"absent\nend"),
     "nine": b"portfolio 1\nhotels 9\n",
     "overbooked": b"code,count\nP0,1\nP1,1\n",
     "changes": CHANGES,
@@ -218,6 +220,7 @@ LINES = [
     (["replay", *STALE, "run"], 0, b"legal 8\n"),
     (["desk", *ONE_VECTOR, "script", "--workers", "0"], 7, CUT_RUN),
     (["portfolio", "list", "--workers", "0"], 7, b"hotel 1 7\n" + CUT_RUN + b"hotel 2 0\n" + RUN),
+    (["portfolio", "one-hotel-twice", "--workers", "0"], 0, b"hotel 1 0\n" + RUN + b"hotel 2 0\n" + RUN),
     (["portfolio", "nine"], 3, b"refused 1 limit 2\n"),
     (["report", *STALE, "run"], 0, REPORT),
     (["report", *REPLAY[1:], "other-reply"], 1, b"illegal 2 reply\n"),
@@ -265,6 +268,10 @@ LINES = [
     (["check", "folder", "certificate"], 4, b"fault 1\n"),
     (["solve", "absent"], 4, b"fault 1\n"),
     (["group", "absent", "0", "2", "1"], 4, b"fault 1\n"),
+    (["judge", "absent", "journal"], 4, b"fault 1\n"),
+    (["judge", "problem", "absent"], 4, b"fault 2\n"),
+    (["portfolio", "absent"], 4, b"fault 1\n"),
+    (["portfolio", "no-second-script"], 4, b"fault 11\n"),
 ]
 
 # A line whose answer has parts that another solver may choose otherwise: how many of each stay are sold.
@@ -279,6 +286,22 @@ CHOSEN = [
 
 # One line of words for each command, and one that no command has: each writes something.
 WRITING = [BOTH, ["solve", "problem"], ["group", "problem", "0", "2", "1"], ["judge", "problem", "journal"], [*REPLAY, "journal"], ["desk", *STALE, "script"], ["report", *STALE, "run"], ["sheet", "problem"], ["demo", "0", "1", "1", "1"], ["scenarios", "problem", "changes"], ["portfolio", "list"], ["help"]]
+
+# A line of each command that reads files, whose first file is as long as such files may be, and its refusal.
+TOO_SHORT, NO_TOML = b"refused 1 tooshort\n", b"refused 1 nottoml\n"
+
+GREAT = [
+    (["check", "greatest", "certificate"], TOO_SHORT),
+    (["solve", "greatest"], TOO_SHORT),
+    (["group", "greatest", "0", "2", "1"], TOO_SHORT),
+    (["judge", "greatest", "journal"], TOO_SHORT),
+    (["sheet", "greatest"], TOO_SHORT),
+    (["scenarios", "greatest", "changes"], TOO_SHORT),
+    (["portfolio", "greatest"], TOO_SHORT),
+    (["desk", "greatest", *STALE[1:], "script"], NO_TOML),
+    (["replay", "greatest", *STALE[1:], "run"], NO_TOML),
+    (["report", "greatest", *STALE[1:], "run"], NO_TOML),
+]
 
 
 def run(program, folder, words, **how):
@@ -349,9 +372,9 @@ def try_want_of_memory(tally, program, folder):
     if space is None:
         tally.skip("want of memory", "no limit on the address space lets the program start here")
         return
-    for words in [["check", "greatest", "certificate"], ["solve", "greatest"], ["group", "greatest", "0", "2", "1"]]:
+    for words, refusal in GREAT:
         ample = run(program, folder, words)
-        tally.expect(f"{named(words)} with ample memory", (ample.returncode, ample.stdout), (3, b"refused 1 tooshort\n"))
+        tally.expect(f"{named(words)} with ample memory", (ample.returncode, ample.stdout), (3, refusal))
         done = run(program, folder, words, preexec_fn=with_address_space(space + 2**22))
         tally.expect(f"{named(words)} without memory", (done.returncode, done.stdout), (6, b""))
 

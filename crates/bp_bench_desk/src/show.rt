@@ -48,7 +48,7 @@ fn rate_of<R: Clock>(rt: &R, view: &mut View, milliseconds: u32) -> Option<u64> 
     let mut last = 0;
     for batch in 1..=1_000_000_000u64 {
         last = look_on(view, last)?;
-        let taken = start.elapsed(rt).ok()?.as_micros() as u64;
+        let taken = u64::try_from(start.elapsed(rt).ok()?.as_micros()).ok()?;
         if taken / 1000 >= u64::from(milliseconds) {
             return batch.saturating_mul(1_000_000_000).checked_div(taken);
         }

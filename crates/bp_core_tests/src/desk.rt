@@ -1,20 +1,26 @@
-ghost use Rattle.std.specs.Prelude.{◌≡◌, ◌<◌, length, map, IfOk};
+ghost use Rattle.std.specs.Prelude.{◌≡◌, ◌<◌, false, length, map, IfOk, IsTrue};
 ghost use Rattle.std.specs.List.{range_with_len};
 ghost use Rattle.std.specs.Arc.{arc_value};
+ghost use Rattle.bp_types.specs.Changes.{changed, HasUnits};
+ghost use Rattle.bp_types.specs.Spans.{IsSpanWithin};
+ghost use Rattle.bp_types.specs.Claim.{IsCertificateOf};
 ghost use Rattle.bp_core.specs.Acting.{MayCall};
 ghost use Rattle.bp_core.specs.Instance.{units_left_at, stay_now, instance_of};
 ghost use Rattle.bp_core.specs.Calls.{Continues};
 ghost use Rattle.bp_core_tests.specs.Desks.{IsBoardFor, IsQuoteOf};
 
 use bp_board::Board;
+use bp_cert::{Verdict, check};
 use bp_core::{Act, Answer, Book, Call, is_in_range};
-use bp_fixtures::{Claimed, board_of, displacement, house};
-use bp_types::{Command, Instance, Limits, Quoted, Span, Stay};
+use bp_types::{Certificate, Change, Command, House, Instance, Limits, Quoted, Span, Stay, law};
 use std::alloc::Global;
 use std::marker::Model;
 use std::process::Abort;
 use std::sync::Arc;
 use std::test::Fail;
+
+/// Value, sell numbers and prices of a certificate.
+pub(crate) type Claimed<'a> = (u128, &'a [u64], &'a [u64]);
 
 /// A caller, what it does, and what is answered.
 pub(crate) type Row = (u32, Act, Answer);
@@ -31,6 +37,83 @@ impl Model for Desk {
     ghost Value = { Diary };
 
     ghost view = { λ d. d.book };
+}
+
+fn house(
+    alloc: Global,
+    rooms: &[u64],
+    sold: &[u64],
+    stays: &[Stay],
+    limits: Limits,
+) -> Result<House, Fail>
+    ensures { IfOk result (λ h. h ≡ record { rooms = rooms.now; sold = sold.now; stays = stays.now; limits = limits }) }
+{
+    let rooms = Vec::from_slice(alloc, rooms)?;
+    let sold = Vec::from_slice(alloc, sold)?;
+    let stays = Vec::from_slice(alloc, stays)?;
+    match House::new(rooms, sold, stays, limits) {
+        Ok(house) => Ok(house),
+        Err(error) => Err(Fail::new(error)),
+    }
+}
+
+/// The certificate of these numbers, where it is optimal.
+fn optimal(alloc: Global, instance: &Instance, claimed: Claimed<'_>) -> Result<Certificate, Fail>
+    ensures { IfOk result (λ c. IsCertificateOf instance.now c) }
+{
+    let certificate = Certificate {
+        value: claimed.0,
+        sell: Vec::from_slice(alloc, claimed.1)?,
+        prices: Vec::from_slice(alloc, claimed.2)?,
+    };
+    match check(instance, &certificate) {
+        Verdict::Optimal { .. } => Ok(certificate),
+        verdict => Err(Fail::new(format_args!("{verdict:?}"))),
+    }
+}
+
+/// The board of these numbers for a position, where they are an optimal certificate.
+fn board_of(
+    alloc: Global,
+    instance: &Instance,
+    position: u64,
+    claimed: Claimed<'_>,
+) -> Result<Arc<Board>, Fail>
+    ensures { IfOk result (λ b. ((arc_value b).position ≡ position) ×
+        IsCertificateOf instance.now (arc_value b).certificate) }
+{
+    let certificate = optimal(alloc, instance, claimed)?;
+    let _nights = instance.nights();
+    let board = Board::new(alloc, position, certificate)?;
+    Ok(Arc::new(alloc, board)?)
+}
+
+/// Whether each night of a span has so many units.
+fn has_units(instance: &Instance, span: Span, units: u64) -> bool
+    requires { IsSpanWithin (length instance.now.rooms) span }
+    ensures { IsTrue result → HasUnits instance.now span units }
+{
+    for night in span.from..span.to {
+        if instance.rooms(night) < units {
+            return false;
+        }
+    }
+    true
+}
+
+/// The instance with so many units fewer on each night of a span.
+fn without(alloc: Global, instance: &Instance, span: Span, units: u64) -> Result<Instance, Fail>
+    requires span { IsSpanWithin (length instance.now.rooms) span }
+    requires units { HasUnits instance.now span units }
+    ensures { IfOk result (λ p. p ≡ changed instance.now (Change.Rooms span false units)) }
+{
+    let mut fewer = instance.copy(alloc)?;
+    fewer.apply(Change::Rooms {
+        span,
+        up: false,
+        units,
+    });
+    Ok(fewer)
 }
 
 impl Desk {
@@ -198,11 +281,23 @@ impl Desk {
         let Some(units) = self.book.house().limits().unit.checked_mul(rooms) else {
             return Err(Fail::new("too many units"));
         };
-        let displacement = displacement(alloc, &instance, span, units, before, after)?;
-        Ok(Quoted {
-            position: self.book.length(),
-            displacement,
-        })
+        if span.from >= span.to || span.to > instance.nights() {
+            return Err(Fail::new("not a span"));
+        }
+        if !has_units(&instance, span, units) {
+            return Err(Fail::new("no rooms"));
+        }
+        let first = optimal(alloc, &instance, before)?;
+        let fewer = without(alloc, &instance, span, units)?;
+        let last = optimal(alloc, &fewer, after)?;
+        law::certificates_tell_displacement();
+        match first.value.checked_sub(last.value) {
+            Some(displacement) => Ok(Quoted {
+                position: self.book.length(),
+                displacement,
+            }),
+            None => Err(Fail::new("worth more without the rooms")),
+        }
     }
 
     /// What the book answers to a group with a quote.

@@ -1,14 +1,13 @@
 //! A hundred calls, each with its reply worked out by hand from the rules.
 
-use crate::desk::Row;
-use crate::hotel::three_nights;
+use crate::desk::{Claimed, Row};
+use crate::hotel::{N0, N01, N1, N012, three_nights};
 use bp_core::Act::{Do, Enrol, Leave};
 use bp_core::Answer::{HistoryFull, Logged, Superseded, Unquoted};
 use bp_core::Reply::{
     Accepted, AlreadyCancelled, BelowSold, Cancelled, Done, GroupNoRoom, NoRoom, NotBooked, TooLow,
     Vector,
 };
-use bp_fixtures::{Claimed, N0, N01, N1, N012};
 use bp_types::Command::{Book, Cancel, Group, Reforecast, Reprice, Resize};
 use bp_types::Limits;
 use std::test::Fail;

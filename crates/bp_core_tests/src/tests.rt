@@ -1,5 +1,7 @@
-use crate::desk::{Desk, Row};
-use crate::hotel::{AFTER_ONE, three_nights};
+use crate::desk::{Claimed, Desk, Row};
+use crate::hotel::{
+    AFTER_ONE, LIMITS, N0, N01, N1, N2, N12, OPENING, ROOMS, STAYS, WITHOUT_ONE_EACH, three_nights,
+};
 use bp_core::Act::{Do, Enrol, Leave};
 use bp_core::Answer;
 use bp_core::Answer::{Behind, Logged, PublicationsFull, Stale, Superseded};
@@ -7,7 +9,6 @@ use bp_core::Reply::{
     Accepted, AlreadyCancelled, BelowSold, Cancelled, Done, GroupAccepted, GroupNoRoom,
     GroupTooLow, NoRoom, NotBooked, TooLow, Vector,
 };
-use bp_fixtures::{Claimed, LIMITS, N0, N01, N1, N2, N12, OPENING, ROOMS, STAYS, WITHOUT_ONE_EACH};
 use bp_types::Command::{Book, Cancel, Group, Reforecast, Reprice, Resize};
 use bp_types::{Change, Limits, Stay};
 use std::alloc::Global;

@@ -2,25 +2,44 @@
 ghost use Rattle.std.specs.Prelude.{◌≡◌, ◌<◌, is_some, IsTrue};
 ghost use Rattle.bp_core.specs.Lines.{published_position};
 
-use crate::journals::{CASES, Row, Setting};
+use crate::journals::{CASES, Claimed, Row, Setting};
 use bp_core::{Act, Entry, Line};
-use bp_fixtures::{ROOMS, STAYS, certificate, house as house_with};
 use bp_journal::Journal;
 use bp_judge::{Cause, Judgement, judge};
-use bp_types::{Certificate, House, Steps};
+use bp_types::{Certificate, House, Memory, Span, Stay, Steps};
 use std::alloc::Global;
 use std::marker::Brand;
 use std::sync::ledger::{Blank, Ledger};
 use std::test::Fail;
 
-/// The house of the four stays on three nights, with the rooms sold, the forecasts and the limits of a setting.
+/// From, to and rate of the stays; each house has three nights with 2, 1 and 2 rooms.
+const STAYS: [(u32, u32, u64); 4] = [(0, 2, 100), (1, 3, 150), (0, 1, 60), (2, 3, 40)];
+
 pub(crate) fn house(alloc: Global, setting: &Setting) -> Result<House, Fail> {
     let (sold, forecasts, limits) = setting;
-    let mut stays = STAYS;
+    let mut stays = Vec::new(alloc);
     for at in 0..4 {
-        stays[at].forecast = forecasts[at];
+        let (from, to, rate) = STAYS[at];
+        stays.push(Stay {
+            span: Span { from, to },
+            rate,
+            forecast: forecasts[at],
+        })?;
     }
-    house_with(alloc, &ROOMS, sold, &stays, *limits)
+    let rooms = Vec::from_slice(alloc, &[2, 1, 2])?;
+    let sold = Vec::from_slice(alloc, sold)?;
+    match House::new(rooms, sold, stays, *limits) {
+        Ok(house) => Ok(house),
+        Err(error) => Err(Fail::new(error)),
+    }
+}
+
+fn certificate(alloc: Global, claimed: &Claimed) -> Result<Certificate, Memory> {
+    Ok(Certificate {
+        value: claimed.0,
+        sell: Vec::from_slice(alloc, &claimed.1)?,
+        prices: Vec::from_slice(alloc, &claimed.2)?,
+    })
 }
 
 /// The journal of these rows, each Publish and no other act with a certificate.
@@ -33,7 +52,7 @@ fn journal(alloc: Global, rows: &[Row]) -> Result<Journal, Fail> {
             reply: *reply,
         };
         let certificate = match claimed {
-            Some((value, sell, prices)) => Some(certificate(alloc, (*value, sell, prices))?),
+            Some(claimed) => Some(certificate(alloc, claimed)?),
             None => None,
         };
         if !may_stand(&entry, &certificate) {

@@ -296,7 +296,14 @@ impl Flow {
         requires { hop.arc < arcs self.now.flow.program }
         ensures { result ≡ tail self.now.flow.program (step_of self.now.flow.program hop) }
     {
-        self.network.tail(hop)
+        let stays = self.instance.stays();
+        if hop.arc < stays {
+            let span = self.instance.stay(hop.arc).span;
+            if hop.forward { span.from } else { span.to }
+        } else {
+            let night = hop.arc - stays;
+            if hop.forward { night } else { night + 1 }
+        }
     }
 
     /// The node that the hop reaches.
@@ -304,9 +311,19 @@ impl Flow {
         requires { hop.arc < arcs self.now.flow.program }
         ensures { result ≡ head self.now.flow.program (step_of self.now.flow.program hop) }
     {
-        self.network.head(hop)
+        let stays = self.instance.stays();
+        if hop.arc < stays {
+            let span = self.instance.stay(hop.arc).span;
+            if hop.forward { span.to } else { span.from }
+        } else {
+            let night = hop.arc - stays;
+            if hop.forward { night + 1 } else { night }
+        }
     }
 
+    /// The reduced cost of a stay's hop that has room for a unit. It is the distance of two numbers either way, so that
+    /// no branch is taken for it: whether there is room is as good as drawn by lot, and a wrong guess of the processor
+    /// takes longer than all the rest.
     fn stay_cost(&self, stay: u32, forward: bool) -> Option<u128>
         requires in_range { stay < length self.now.flow.program.stays }
         requires slack { IsSlack self.now.flow (slice_index self.now.potentials) }
@@ -315,21 +332,17 @@ impl Flow {
     {
         let terms = self.stay(stay);
         let sold = self.sold(stay);
-        let rate = u128::from(terms.rate);
-        let from = u128::from(self.level(terms.span.from));
-        let to = u128::from(self.level(terms.span.to));
+        let left = u128::from(self.level(terms.span.from));
+        let right = u128::from(self.level(terms.span.to)) + u128::from(terms.rate);
+        let cost = left.max(right) - left.min(right);
         if forward {
             if sold < terms.forecast {
-                Some(from - (to + rate))
+                Some(cost)
             } else {
                 None
             }
         } else {
-            if sold > 0 {
-                Some(to + rate - from)
-            } else {
-                None
-            }
+            if sold > 0 { Some(cost) } else { None }
         }
     }
 

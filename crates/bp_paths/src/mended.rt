@@ -4,12 +4,29 @@
 //! that no hop leads nearer by more than its cost shows that none is shorter. A node at 0 needs no look at its hops.
 
 ghost use Rattle.std.specs.Prelude.{◌≡◌, ℕ, ◌+◌, ◌^◌, ◌<◌, ◌≤◌, length, slice_index, IsTrue};
-ghost use Rattle.bp_residual.specs.Network.{Priced, IsSlack, IsPriced, arcs, step_of, nodes};
+ghost use Rattle.bp_residual.specs.Network.{Priced, IsSlack, IsPriced, Admits, arcs, head, step_of, nodes};
+ghost use Rattle.bp_paths.specs.Labels.{cost};
 ghost use Rattle.bp_paths.specs.Mended.{GrowsFrom, LeadsOn, IsRightAt};
 ghost use Rattle.bp_paths.specs.Paths.{AreDistancesTo, far};
 
 use crate::guess::guess;
 use bp_residual::{Flow, Hop};
+
+/// How far a node is by a hop that leaves it, by what is kept for the node that it reaches; the greatest number where it
+/// has no room, or where the sum is greater.
+fn reach_by(flow: &Flow, kept: &[u128], hop: Hop) -> u128
+    requires in_range { hop.arc < arcs flow.now.flow.program }
+    requires slack { IsSlack flow.now.flow (slice_index flow.now.potentials) }
+    requires each { length kept.now ≡ nodes flow.now }
+    ensures { Admits flow.now.flow (step_of flow.now.flow.program hop) 1 →
+        result ≤ cost flow.now (step_of flow.now.flow.program hop) +
+        slice_index kept.now (head flow.now.flow.program (step_of flow.now.flow.program hop)) }
+{
+    match flow.reduced_cost(hop) {
+        Some(cost) => kept[flow.head(hop) as usize].saturating_add(cost),
+        None => u128::MAX,
+    }
+}
 
 /// Whether no hop from a node leads to one that is nearer by more than its cost.
 fn grows_from(flow: &Flow, kept: &[u128], node: u32) -> bool
@@ -25,10 +42,7 @@ fn grows_from(flow: &Flow, kept: &[u128], node: u32) -> bool
     }
     let hops = flow.hops_at(node);
     for place in 0..hops.len() {
-        let hop = hops[place];
-        if let Some(cost) = flow.reduced_cost(hop)
-            && kept[flow.head(hop) as usize].saturating_add(cost) < reach
-        {
+        if reach_by(flow, kept, hops[place]) < reach {
             return false;
         }
     }

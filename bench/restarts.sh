@@ -3,8 +3,8 @@
 # It wants rt. LEMON is left out without Debian's g++ and liblemon-dev, and the count of searches without Debian's valgrind.
 # Where the program has to be built, that takes some minutes, most of them for proofs.
 #
-# A booking is one room less on each night of a stay and one less in its forecast, with the prices settled; a change is
-# another rate of one stay; a group is a quote for ten rooms. Each time is the median of seven runs, of 100 of each kind.
+# A booking is one room less on each night of a stay that the first prices accept, and one less in its forecast, with the
+# prices settled; a change is another rate of one stay; a group is a quote for ten rooms. Each time is the median of seven runs, of 100 of each kind.
 # It fails where a booking takes more than a twentieth of a cold solve, or where LEMON finds another optimum.
 set -eu
 here="$(cd "$(dirname "${BASH_SOURCE[0]}")" && pwd)"

@@ -9,6 +9,7 @@ use std::process::{ExitCode, Termination};
 /// not give.
 #[derive(Clone, Copy, Debug)]
 pub struct Exit {
+    /// The status, as the system gets it.
     pub number: u8,
     ghost ended: { ∥ IsExit number ∥₁ },
 }

@@ -17,7 +17,7 @@ use std::{env, io};
 
 mod exit;
 
-// The words behind the program's name.
+/// The words behind the program's name.
 fn words<R: Env + AllocGlobal>(rt: &R) -> io::Result<Vec<String>> {
     let mut words = Vec::new(rt.alloc());
     for word in env::args(rt)?.skip(1) {
@@ -26,7 +26,7 @@ fn words<R: Env + AllocGlobal>(rt: &R) -> io::Result<Vec<String>> {
     Ok(words)
 }
 
-// The status where the system gives no words: there is no memory for them, or they are no text.
+/// The status where the system gives no words: there is no memory for them, or they are no text.
 fn no_words(error: &io::Error) -> Status
     ensures { (result ≡ NotPlain) ⊎ (result ≡ NoMemory) }
 {
@@ -37,7 +37,7 @@ fn no_words(error: &io::Error) -> Status
     }
 }
 
-// Does the line of these words over real files and standard output, and gives the number of its status.
+/// Does the line of these words over real files and standard output, and gives the number of its status.
 fn serve<R: Files + Print + AllocGlobal + Wait + Threads + Sync>(rt: &R, words: &[String]) -> u8
     ensures { ServesUnseen (texts words.now) result }
 {
@@ -46,6 +46,7 @@ fn serve<R: Files + Print + AllocGlobal + Wait + Threads + Sync>(rt: &R, words: 
     bp_run::run(rt, rt.alloc(), words, &mut shelf, &mut out, &NoGate)
 }
 
+/// Serves the words that the system gives, and ends with their status.
 fn main(rt: HostRuntime) -> Exit {
     let number = match words(&rt) {
         Ok(words) => serve(&rt, &words),

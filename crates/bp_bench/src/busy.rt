@@ -12,6 +12,7 @@ use std::alloc::Global;
 use std::test::Fail;
 use std::time::{Clock, Instant};
 
+/// Callers of a book, the opener among them.
 const CALLERS: u32 = 16;
 
 /// Calls between two vectors.
@@ -24,6 +25,7 @@ struct Pair {
     b: u64,
 }
 
+/// A new forecast of a stay: none where it covers a night that is closed at no price.
 fn reforecast(stay: u32, stays: &[Stay], count: u64) -> Command {
     let closed = match stays.get(stay as usize) {
         Some(stay) => covers_free(stay.span),
@@ -35,6 +37,7 @@ fn reforecast(stay: u32, stays: &[Stay], count: u64) -> Command {
     }
 }
 
+/// New rooms of a night: one time in ten fewer than are sold, else 9,000 at least, and none where the night is closed.
 fn resize(night: u32, pick: u64) -> Command {
     let open = if pick.is_multiple_of(10) {
         99
@@ -49,6 +52,7 @@ fn resize(night: u32, pick: u64) -> Command {
     Command::Resize { night, rooms }
 }
 
+/// A group of two nights, or of the last one alone.
 fn group(night: u32, rooms: u64, amount: u64) -> Command
     requires { night < NIGHTS }
 {
@@ -90,6 +94,7 @@ fn command(kind: u64, pair: Pair, stays: &[Stay]) -> Command {
     group(night, if kind < 98 { 10_000 } else { 1 }, b)
 }
 
+/// The next command: a kind, and what it is drawn from.
 fn next_command(draws: &mut WideDraws, stays: &[Stay]) -> Command {
     let kind = draws.below(100);
     let a = draws.below(1_000_000);
@@ -97,6 +102,7 @@ fn next_command(draws: &mut WideDraws, stays: &[Stay]) -> Command {
     command(kind, Pair { a, b }, stays)
 }
 
+/// A reply as numbers: its kind, and what it tells.
 fn reply_parts(reply: Reply) -> [u64; 4] {
     match reply {
         Reply::Accepted { vector, sum } => [0, vector, sum, 0],
@@ -113,6 +119,7 @@ fn reply_parts(reply: Reply) -> [u64; 4] {
     }
 }
 
+/// An answer as numbers: its kind, and what it tells.
 fn parts(answer: Option<Answer>) -> [u64; 4] {
     match answer {
         Some(Answer::Logged(reply)) => reply_parts(reply),
@@ -145,6 +152,7 @@ struct Shift {
 }
 
 impl Shift {
+    /// Makes the calls of a batch, each by one of the callers.
     fn call_all(&mut self, desk: &mut Desk, stays: &[Stay]) {
         for _ in 0..BATCH {
             let caller = self.draws.below(u64::from(CALLERS)) as u32;

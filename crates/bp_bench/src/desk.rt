@@ -32,6 +32,7 @@ impl Model for Desk {
     ghost view = { λ d. d.book };
 }
 
+/// The house of the hotel.
 fn house(alloc: Global, hotel: &Hotel) -> Result<House, Fail> {
     let rooms = Vec::from_slice(alloc, &hotel.rooms)?;
     let sold = Vec::from_slice(alloc, &hotel.sold)?;
@@ -83,6 +84,7 @@ impl Desk {
         Ok(Desk { book })
     }
 
+    /// What the book answers to a call.
     fn act(&mut self, caller: u32, call: Call) -> Answer
         requires { MayCall self.old caller call }
     {
@@ -108,6 +110,7 @@ impl Desk {
         }
     }
 
+    /// The units left on a night.
     fn units_left(&self, night: u32) -> Result<u64, Fail>
         requires { night < length self.now.house.rooms }
         ensures { IfOk result (λ u. u ≡ units_left_at self.now.house self.now.history night) }
@@ -119,6 +122,7 @@ impl Desk {
         }
     }
 
+    /// The units left on each night.
     fn all_units_left(&self, alloc: Global) -> Result<Vec<u64>, Fail>
         ensures { IfOk result (λ v. v.items ≡
             map (units_left_at self.now.house self.now.history) (range_with_len 0 (length self.now.house.rooms))) }
@@ -130,6 +134,7 @@ impl Desk {
         Ok(left)
     }
 
+    /// A stay with its rate and its forecast as they are now.
     fn stay_now(&self, stay: u32) -> Stay
         requires { stay < length self.now.house.stays }
         ensures { result ≡ stay_now self.now.house self.now.history stay }
@@ -141,6 +146,7 @@ impl Desk {
         }
     }
 
+    /// Each stay with its rate and its forecast as they are now.
     fn stays_now(&self, alloc: Global) -> Result<Vec<Stay>, Fail>
         ensures { IfOk result (λ v. v.items ≡
             map (stay_now self.now.house self.now.history) (range_with_len 0 (length self.now.house.stays))) }

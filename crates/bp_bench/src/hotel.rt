@@ -4,18 +4,22 @@ use bp_types::limits::{MOST_ENTRIES, MOST_PRICE, MOST_PUBLICATIONS};
 use bp_types::{Instance, Limits, Memory, Span, Stay};
 use std::alloc::Global;
 
+/// The nights of the hotel.
 pub(crate) const NIGHTS: u32 = 400;
 
+/// Its stays.
 pub(crate) const STAYS: u32 = 4_000;
 
-/// Rooms of a night that is open, and how many of them are sold at the opening.
+/// Rooms of a night that is open.
 const ROOMS: u64 = 10_000;
 
+/// Rooms of such a night that are sold at the opening.
 const SOLD: u64 = 100;
 
 /// How many guests are awaited for each stay, but on the nights without a price.
 const FORECAST: u64 = 50;
 
+/// The limits of its desk: a vector is stale after 150 changes.
 pub(crate) const LIMITS: Limits = Limits {
     stale_after: 150,
     entries: MOST_ENTRIES,
@@ -33,6 +37,7 @@ pub(crate) fn is_free(night: u32) -> bool {
     night.is_multiple_of(20)
 }
 
+/// Whether a night of the span is closed at the greatest price.
 fn covers_dear(span: Span) -> bool {
     for night in span.from..span.to {
         if is_dear(night) {
@@ -42,6 +47,7 @@ fn covers_dear(span: Span) -> bool {
     false
 }
 
+/// Whether a night of the span is closed at no price.
 pub(crate) fn covers_free(span: Span) -> bool {
     for night in span.from..span.to {
         if is_free(night) {

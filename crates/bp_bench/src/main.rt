@@ -1,6 +1,6 @@
 //! What the scripts of bench/ time on one thread, and scenarios on several. The first word chooses what is run, the
-//! others are its loads; each line that it prints has the nanoseconds that were taken, and a number that does not depend
-//! on them.
+//! others are its loads; each line that it prints has the nanoseconds that were taken, and a number that does not
+//! depend on them.
 //!
 //!     bp_bench restarts ROUNDS          a cold solve, then so many bookings, changes of a rate and quotes of groups
 //!     bp_bench scenarios LISTS          so many lists of five changes
@@ -93,6 +93,7 @@ fn run_tiny<R: Clock + Threads + Sync + Print>(rt: &R, alloc: Global) -> Result<
     print_counts(rt, &tables::run(rt, alloc, &Texts::tiny(alloc)?, 2)?)
 }
 
+/// Prints of each line what does not depend on time.
 fn print_counts<R: Print>(rt: &R, lines: &[Timed]) -> Result<(), Fail> {
     for line in lines {
         println!(rt; "{} {}", line.name, line.count)?;
@@ -100,6 +101,7 @@ fn print_counts<R: Print>(rt: &R, lines: &[Timed]) -> Result<(), Fail> {
     Ok(())
 }
 
+/// Prints each line with its time.
 fn print_times<R: Print>(rt: &R, lines: &[Timed]) -> Result<(), Fail> {
     for line in lines {
         println!(rt; "{} {} {}", line.name, line.nanoseconds, line.count)?;
@@ -107,6 +109,7 @@ fn print_times<R: Print>(rt: &R, lines: &[Timed]) -> Result<(), Fail> {
     Ok(())
 }
 
+/// Does what the words ask for.
 fn main(rt: HostRuntime) -> Result<(), Fail> {
     let words = words(&rt)?;
     if text(&words, 0) == "tiny" {

@@ -1,5 +1,6 @@
-//! Restarts beside a cold solve: a booking is one room less on each night of a stay and one less in its forecast, with
-//! the prices settled; a change is another rate of one stay; a group is ten rooms on the nights of a stay.
+//! Restarts beside a cold solve: a booking is one room less on each night of a stay that the first prices accept, and one
+//! less in its forecast, with the prices settled; a change is another rate of one stay; a group is ten rooms on the nights
+//! of a stay.
 ghost use Rattle.std.specs.Prelude.{◌≡◌, ◌<◌, length, IsTrue};
 ghost use Rattle.bp_types.specs.Spans.{IsSpanWithin};
 ghost use Rattle.bp_types.specs.Changes.{HasUnits};
@@ -39,7 +40,8 @@ fn measure<L: Ledger, C: Clock>(
     let mut lines = Vec::new(alloc);
     let (cold, mut solver) = time_cold(clock, alloc, &instance, &mut steps)?;
     lines.push(cold)?;
-    lines.push(time_bookings(clock, &mut solver, &instance, rounds, &mut steps)?)?;
+    let accepted = accepted(alloc, &solver, &instance, rounds)?;
+    lines.push(time_bookings(clock, &mut solver, &instance, &accepted, &mut steps)?)?;
     lines.push(time_rates(clock, &mut solver, &instance, rounds, &mut steps)?)?;
     solver.settle(&mut steps);
     lines.push(time_groups(clock, alloc, &solver, &instance, rounds, &mut steps)?)?;
@@ -62,11 +64,11 @@ fn time_bookings<L: Ledger, C: Clock>(
     clock: &C,
     solver: &mut Solver,
     instance: &Instance,
-    rounds: u32,
+    accepted: &[u32],
     steps: &mut Steps<L>,
 ) -> Result<Timed, Fail> {
     let start = Instant::now(clock)?;
-    book_all(solver, instance, rounds, steps);
+    book_all(solver, instance, accepted, steps);
     let taken = since(clock, start)?;
     Ok(line("booking", taken, solver))
 }
@@ -147,15 +149,46 @@ fn book<L: Ledger>(solver: &mut Solver, number: u32, stay: Stay, steps: &mut Ste
     }
 }
 
-/// Books the first stays, one each.
+/// What a span costs at these prices.
+fn price(prices: &[u64], span: Span) -> u64 {
+    let mut sum: u64 = 0;
+    for night in span.from..span.to {
+        if let Some(price) = prices.get(night as usize) {
+            sum = sum.saturating_add(*price);
+        }
+    }
+    sum
+}
+
+/// The first stays whose rates cover the prices, at most so many: those that a desk books.
+fn accepted(
+    alloc: Global,
+    solver: &Solver,
+    instance: &Instance,
+    most: u32,
+) -> Result<Vec<u32>, Fail> {
+    let prices = solver.prices(alloc)?;
+    let mut accepted = Vec::new(alloc);
+    for number in 0..instance.stays() {
+        let stay = instance.stay(number);
+        if accepted.len() < most as usize && price(&prices, stay.span) <= stay.rate {
+            accepted.push(number)?;
+        }
+    }
+    Ok(accepted)
+}
+
+/// Books these stays, one each.
 fn book_all<L: Ledger>(
     solver: &mut Solver,
     instance: &Instance,
-    rounds: u32,
+    numbers: &[u32],
     steps: &mut Steps<L>,
 ) {
-    for number in 0..rounds.min(instance.stays()) {
-        book(solver, number, instance.stay(number), steps);
+    for number in numbers {
+        if *number < instance.stays() {
+            book(solver, *number, instance.stay(*number), steps);
+        }
     }
 }
 

@@ -11,6 +11,7 @@ use std::alloc::Global;
 use std::test::Fail;
 use std::time::{Clock, Instant};
 
+/// The nights of the ledger.
 const NIGHTS: u32 = 400;
 
 /// Rooms of each night: more than the visits take, so that each looks at its whole span.

@@ -56,6 +56,7 @@ struct Tables {
     sold: Sold,
 }
 
+/// Reads the three tables, in their order.
 fn tables_of(alloc: Global, hotel: &Hotel, texts: &Texts) -> Result<Tables, TableError> {
     let mut stays = read_stays(alloc, hotel, &texts.stays)?;
     read_forecast(alloc, &mut stays, &texts.forecast)?;

@@ -4,10 +4,13 @@ use bp_types::{Instance, Span, Stay};
 use std::alloc::Global;
 use std::test::Fail;
 
+/// The nights of the year.
 pub(crate) const NIGHTS: u32 = 365;
 
+/// Rooms of each night.
 const ROOMS: u64 = 120;
 
+/// The stays that are drawn.
 pub(crate) const STAYS: u32 = 3000;
 
 /// Where the draws of a year begin.

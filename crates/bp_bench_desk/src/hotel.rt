@@ -23,14 +23,16 @@ pub(crate) struct Hotel {
     pub(crate) prices: Vec<u64>,
 }
 
+/// The nights of each hotel.
 pub(crate) const NIGHTS: u32 = 400;
 
+/// The stays of the wide one.
 const STAYS: u32 = 4_000;
 
-/// Rooms of each night, and guests that are awaited for each stay: there is a room for every guest, and no night has a
-/// price.
+/// Rooms of each night of the wide one: there is a room for every guest, and no night has a price.
 const ROOMS: u64 = 10_000;
 
+/// Guests that are awaited for each of its stays.
 const FORECAST: u64 = 50;
 
 /// Stays of one night to seven, all over the year.

@@ -88,6 +88,7 @@ fn run_tiny<R: Clock + Threads + Wait + Sync + Print>(rt: &R, alloc: Global) -> 
     print_counts(rt, &show::run(rt, alloc, 2, 1, 2)?)
 }
 
+/// Prints of each line what depends neither on time nor on the order of threads.
 fn print_counts<R: Print>(rt: &R, lines: &[Measured]) -> Result<(), Fail> {
     for line in lines {
         println!(rt; "{} {}", line.name, line.count)?;
@@ -95,6 +96,7 @@ fn print_counts<R: Print>(rt: &R, lines: &[Measured]) -> Result<(), Fail> {
     Ok(())
 }
 
+/// Prints each line whole.
 fn print_all<R: Print>(rt: &R, lines: &[Measured]) -> Result<(), Fail> {
     for line in lines {
         println!(rt; "{} {} {}", line.name, line.figure, line.count)?;
@@ -102,6 +104,7 @@ fn print_all<R: Print>(rt: &R, lines: &[Measured]) -> Result<(), Fail> {
     Ok(())
 }
 
+/// Does what the words ask for.
 fn main(rt: HostRuntime) -> Result<(), Fail> {
     let words = words(&rt)?;
     if text(&words, 0) == "tiny" {

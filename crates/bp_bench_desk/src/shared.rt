@@ -72,6 +72,7 @@ fn work<R: Wait>(rt: &R, desk: &Desk, house: &House, worker: &mut Worker, calls:
     }
 }
 
+/// Lets all callers work, each in a thread of its own where one can be made.
 fn work_all<R: Threads + Wait + Sync>(
     rt: &R,
     desk: &Desk,

@@ -13,8 +13,10 @@ use std::test::Fail;
 use std::thread::{self, Threads, for_each_mut, join};
 use std::time::{Clock, Duration, Instant};
 
+/// The span that is looked at.
 const TWO_NIGHTS: Span = Span { from: 0, to: 2 };
 
+/// A view, and how often it was looked at.
 #[derive(Drop)]
 struct Viewer {
     view: View,
@@ -22,6 +24,7 @@ struct Viewer {
     rate: u64,
 }
 
+/// A look at that span, where the view has its nights.
 fn look(view: &mut View) -> Option<Look> {
     if TWO_NIGHTS.to > view.nights() {
         return None;
@@ -107,6 +110,7 @@ fn rate_of_all(viewers: &mut [Viewer], vectors: u32) -> Option<u64> {
     Some(rate)
 }
 
+/// A viewer for each view.
 fn seated(alloc: Global, views: Vec<View>) -> Result<Vec<Viewer>, Fail> {
     let mut viewers = Vec::new(alloc);
     for view in views {

@@ -34,6 +34,7 @@ impl Story for Log {
     }
 }
 
+/// A seat at the lock, its number, and how many turns it has had in which it added an entry.
 #[derive(Drop)]
 struct Worker {
     seat: TurnSeat<Log>,
@@ -56,6 +57,7 @@ fn work<R: Wait>(rt: &R, turn: &Turn<Log>, worker: &mut Worker, enough: usize)
     }
 }
 
+/// Lets all workers work, each in a thread of its own where one can be made.
 fn work_all<R: Threads + Wait + Sync>(
     rt: &R,
     turn: &Turn<Log>,

@@ -1,3 +1,4 @@
+//! A board: a certificate for a position, and the sums of its prices.
 ghost use Rattle.std.specs.Prelude.{◌≡◌, ◌+◌, ◌≤◌, length, All, IfOk};
 ghost use Rattle.bp_types.specs.declared.limits.TheConstants.{MOST_NIGHTS, MOST_PRICE};
 ghost use Rattle.bp_types.specs.Optimum.{price_from};
@@ -15,7 +16,9 @@ use std::marker::Model;
 /// Contracts see the position and the certificate.
 #[derive(Debug, Drop)]
 pub struct Board {
+    /// How many entries of the history the certificate knows.
     position: u64,
+    /// Its value, its allocation and its prices.
     certificate: Certificate,
     /// The prices of the nights from each one to the last, and 0 at the end.
     sums: Vec<u64>,
@@ -35,7 +38,8 @@ impl Model for Board {
 }
 
 impl Board {
-    /// A board for a position, that is a number of entries, with a certificate of 1 to `MOST_NIGHTS` prices.
+    /// A board for a position, that is a number of entries, with a certificate of 1 to `MOST_NIGHTS` prices. It takes
+    /// the time of the nights; the one error is `Memory`.
     pub fn new(alloc: Global, position: u64, certificate: Certificate) -> Result<Board, Memory>
         requires { HasPrices certificate }
         ensures { IfOk result (λ b. b ≡ record { position = position; certificate = certificate }) }
@@ -80,7 +84,7 @@ impl Board {
         self.sums[night as usize]
     }
 
-    /// The sum of the prices of a span's nights, in minor units of money.
+    /// The sum of the prices of a span's nights, in minor units of money: one difference, however long the span is.
     pub fn price(&self, span: Span) -> u64
         requires { IsSpanWithin (length self.now.certificate.prices) span }
         ensures { result ≡ price self.now.certificate.prices span }

@@ -1,3 +1,4 @@
+//! Tests: the price of each span of three nights, and that a board crosses threads.
 use crate::Board;
 use bp_types::{Certificate, Span};
 use std::test::Fail;

@@ -16,7 +16,7 @@ pub(crate) struct Reply {
     pub(crate) out: MemorySink,
 }
 
-// Puts the text at the front of the buffer, where it fits, and says how long it is.
+/// Puts the text at the front of the buffer, where it fits, and says how long it is.
 fn hand_out(text: &[u8], answer: &mut [u8], written: &mut u64) -> bool
     ensures fits { IsTrue result ↔ (length text.now ≤ length answer.old) }
     ensures filled { length text.now ≤ length answer.old → answer.new ≡ text.now ++ drop (length text.now) answer.old }

@@ -10,7 +10,7 @@ use std::alloc::Global;
 /// Numbers of a line have at most nine digits.
 const NUMBERS: u32 = 1_000_000_000;
 
-// Whether a line may have these numbers of a group.
+/// Whether a line may have these numbers of a group.
 fn are_group_numbers(from: u32, to: u32, rooms: u64) -> bool
     ensures { IsTrue result ↔ AreGroupNumbers from to rooms }
 {

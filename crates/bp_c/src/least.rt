@@ -15,7 +15,7 @@ pub(crate) fn least_certificate(alloc: Global, instance: &Instance) -> Result<Ce
     solved::<Brand>(alloc, instance, Blank::new(1))
 }
 
-// The same, with the searches counted in a ledger.
+/// The same, with the searches counted in a ledger.
 fn solved<L: Ledger>(
     alloc: Global,
     instance: &Instance,

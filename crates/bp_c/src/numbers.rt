@@ -24,12 +24,15 @@ const NO_MEMORY: u32 = 6;
 /// A slice has not the length that it must have.
 const LENGTHS: u32 = 8;
 
+/// Why numbers are not solved.
 enum Failure {
+    /// A limit refuses them.
     Refused(InstanceError),
+    /// There was no memory.
     Memory,
 }
 
-// One stay for each row of the columns.
+/// One stay for each row of the columns.
 fn stays_of(
     alloc: Global,
     from: &[u32],
@@ -54,7 +57,7 @@ fn stays_of(
     Ok(stays)
 }
 
-// The certificate of the rooms and the columns, or why there is none.
+/// The certificate of the rooms and the columns, or why there is none.
 fn solve_columns(
     alloc: Global,
     rooms: &[u64],
@@ -84,7 +87,7 @@ fn solve_columns(
     }
 }
 
-// Whether each slice has its length.
+/// Whether each slice has its length.
 fn fit_together(
     rooms: &[u64],
     from: &[u32],
@@ -104,13 +107,12 @@ fn fit_together(
         && prices.len() == rooms.len()
 }
 
-/// Solves the program of these rooms and stays, and gives its certificate with the least prices.
+/// Solves the program of these rooms and stays, and gives its certificate with the least prices, by a cold solve.
 ///
-/// Row j of the columns is stay j: it sleeps from night `from[j]` up to the morning of night `to[j]`, pays
-/// `rate[j]` in minor units of money, and `forecast[j]` units are expected to ask for it. The answer is 0 with
-/// the value, how many units of each stay are sold and the price of each night; 3 with the limit that refuses
-/// the numbers; 6 without memory; 8 where a slice has not its length. Other than at 0, nothing but the refusal
-/// is written.
+/// Row j of the columns is stay j: it sleeps from night `from[j]` up to the morning of night `to[j]`, pays `rate[j]` in
+/// minor units of money, and `forecast[j]` units are expected to ask for it. The answer is 0 with the value, how many
+/// units of each stay are sold and the price of each night; 3 with the limit that refuses the numbers; 6 without
+/// memory; 8 where a slice has not its length. Other than at 0, nothing but the refusal is written.
 #[unsafe(no_mangle)]
 pub extern "C" fn bidprice_solve_numbers(
     alloc: Global,

@@ -16,7 +16,7 @@ use bp_edges::{MemoryShelf, MemorySink, Shelf};
 use bp_run::{run_no_task, run_task};
 use std::alloc::Global;
 
-// Does the task over the shelf, with its text in memory.
+/// Does the task over the shelf, with its text in memory.
 fn done(alloc: Global, task: &Task<'_>, shelf: MemoryShelf) -> Reply
     requires plain { IsPlainTask (asked task.now) }
     requires numbers { HasDemoNumbers (asked task.now) }
@@ -31,7 +31,7 @@ fn done(alloc: Global, task: &Task<'_>, shelf: MemoryShelf) -> Reply
     Reply { status, out }
 }
 
-// Does what is done of words that ask for no task, with its text in memory.
+/// Does what is done of words that ask for no task, with its text in memory.
 fn not_done(alloc: Global, shelf: &MemoryShelf) -> Reply
     requires { ⟦<MemoryShelf as Shelf>⟧.steady shelf.now }
     ensures { IsGivenByNone shelf.now.files result.status result.out.written }

@@ -5,6 +5,7 @@ ghost use Rattle.bp_c.specs.Calls.{one_file, two_files};
 use bp_edges::{HeldFile, MemoryShelf, Shelf};
 use std::alloc::{AllocError, Global};
 
+/// A file in memory: its name and its bytes.
 fn held(alloc: Global, name: &str, bytes: &[u8]) -> Result<HeldFile, AllocError>
     ensures { IfOk result (λ file. file ≡ record { name = name.now; bytes = bytes.now }) }
 {

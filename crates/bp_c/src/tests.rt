@@ -2,6 +2,7 @@
 use super::*;
 use std::test::Fail;
 
+/// Three nights and four stays.
 const PROBLEM: &[u8] = b"problem 1
 nights 3
 rooms 2 1 2
@@ -13,6 +14,7 @@ stay 2 3 40 5
 end
 ";
 
+/// The certificate of this problem with the least prices.
 const CERTIFICATE: &[u8] = b"certificate 1
 value 250
 sell 0 1 1 1

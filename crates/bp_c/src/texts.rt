@@ -8,8 +8,8 @@ use std::alloc::Global;
 
 /// Checks the certificate against the problem, as `bidprice check` does with files of these texts.
 ///
-/// The answer is the command's status, and the text that it writes stands at the front of the buffer; `written` is
-/// its length. It is 6 without memory, and then nothing is written; 8 where the buffer is too short, and then only
+/// The answer is the command's status, and the text that it writes stands at the front of the buffer; `written` is its
+/// length. It is 6 without memory, and then nothing is written; 8 where the buffer is too short, and then only
 /// `written` is, with the length that is needed. So it is of every call with texts.
 #[unsafe(no_mangle)]
 pub extern "C" fn bidprice_check(

@@ -2,8 +2,7 @@
 use Rattle.std.proofs.Common.{◌≡◌, ℕ, zero, suc, ◌<◌, ◌≤◌, refl, ap, sym, subst, ◌∙◌, arith, List, [], ◌∷◌, ◌++◌, length, All, append_assoc, length-append}
 use Rattle.std.specs.Prelude.{codes, Err}
 use Rattle.bp_types.specs.Claim.{Claim}
-use Rattle.bp_types.specs.declared.limits.TheConstants.{MOST_NIGHTS, MOST_STAYS}
-use Rattle.bp_cert.specs.declared.claim_text.TheConstants.{MOST_VALUE}
+use Rattle.bp_types.specs.declared.limits.TheConstants.{MOST_NIGHTS, MOST_STAYS, MOST_VALUE}
 use Rattle.bp_text.specs.declared.text_error.TextError.{TextError}
 use Rattle.bp_text.specs.declared.text_error.TextError.TheVariants.{BadLine, Limit, TooShort, Trailing, Memory}
 use Rattle.bp_text.specs.Lines.{Line, Given, line_of}

@@ -3,15 +3,15 @@ use Rattle.std.specs.Prelude.{ℕ, ◌<◌, ◌≤◌, List, [], ◌∷◌, ◌+
 use Rattle.bp_types.specs.declared.stay.Stay.{Stay}
 use Rattle.bp_types.specs.Program.{Program}
 use Rattle.bp_types.specs.Limits.{IsWithinLimits}
-use Rattle.bp_types.specs.declared.limits.TheConstants.{MOST_NIGHTS, MOST_STAYS, MOST_ROOMS, MOST_RATE, MOST_FORECAST}
+use Rattle.bp_types.specs.declared.limits.TheConstants.{MOST_NIGHTS, MOST_STAYS, MOST_ROOMS, MOST_RATE, MOST_FORECAST, MOST_VALUE}
 use Rattle.bp_types.specs.Claim.{Claim}
-use Rattle.bp_cert.specs.declared.claim_text.TheConstants.{MOST_VALUE}
 use Rattle.bp_text.specs.Lines.{Line, line_of, text_of}
 
 -- the numbers of a stay: its first night, the night after its last, its rate and its forecast
 abbrev pub stay_numbers : Stay → List ℕ
 stay_numbers s = s.span.from ∷ s.span.to ∷ s.rate ∷ s.forecast ∷ []
 
+-- the line of a stay
 abbrev pub stay_line : Stay → Line
 stay_line s = line_of (codes "stay") (stay_numbers s)
 
@@ -55,9 +55,11 @@ pub record IsSpeakable (c : Claim) : Type 0 where
   pub sell : All IsWord c.sell
   pub prices : All IsWord c.prices
 
+-- the text of a problem
 abbrev pub problem_text : Program → List ℕ
 problem_text p = text_of (problem_lines p)
 
+-- the text of a certificate
 abbrev pub certificate_text : Claim → List ℕ
 certificate_text c = text_of (all_certificate_lines c)
 

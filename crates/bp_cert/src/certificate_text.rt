@@ -1,4 +1,4 @@
-//! The text of a certificate.
+//! The text of a certificate, read and written.
 ghost use Rattle.std.specs.Prelude.{◌≡◌, ◌+◌, ◌≤◌, IfOk, IsErrOf};
 ghost use Rattle.bp_edges.specs.Counts.{Rose};
 ghost use Rattle.bp_edges.specs.Writing.{Writes};
@@ -12,6 +12,7 @@ use bp_text::{Draft, Lines, TextError, at_end, push_line, word_line};
 use bp_types::Certificate;
 use std::alloc::{AllocError, Global};
 
+/// Reads all lines of a certificate.
 fn read_lines(alloc: Global, lines: &mut Lines<'_>) -> Result<Certificate, TextError>
     ensures { IsReading all_certificate_lines IsSpeakable lines.old lines.new result }
 {
@@ -21,7 +22,8 @@ fn read_lines(alloc: Global, lines: &mut Lines<'_>) -> Result<Certificate, TextE
     Ok(certificate)
 }
 
-/// Reads the text of a certificate, or says which line of it is the first wrong one.
+/// Reads the text of a certificate, or says which line of it is the first wrong one. Whether it certifies anything is
+/// for `check` to say. It takes the time of the bytes.
 pub fn read_certificate(alloc: Global, bytes: &[u8]) -> Result<Certificate, TextError>
     ensures { IsText all_certificate_lines IsSpeakable bytes.now result }
 {
@@ -31,7 +33,7 @@ pub fn read_certificate(alloc: Global, bytes: &[u8]) -> Result<Certificate, Text
     Ok(certificate)
 }
 
-/// The text of a certificate.
+/// The text of a certificate, in memory. The one error is want of memory.
 pub fn text_of_certificate(alloc: Global, certificate: &Certificate) -> Result<Vec<u8>, AllocError>
     ensures { IfOk result (λ text. text.items ≡ certificate_text certificate.now) }
 {
@@ -42,7 +44,8 @@ pub fn text_of_certificate(alloc: Global, certificate: &Certificate) -> Result<V
     Ok(text)
 }
 
-/// Writes the text of a certificate as it is spelt.
+/// Writes the text of a certificate as it is spelt, in pieces, of which one is held. After an error a first part of the
+/// text is written.
 pub fn write_certificate<K: Sink>(
     alloc: Global,
     certificate: &Certificate,
@@ -59,7 +62,7 @@ pub fn write_certificate<K: Sink>(
     draft.hand_on(out)
 }
 
-/// Puts the text of a certificate behind a draft.
+/// Puts the text of a certificate behind a draft. After an error a first part of the draft's text is written.
 pub fn draft_certificate<K: Sink>(
     draft: &mut Draft,
     certificate: &Certificate,

@@ -12,17 +12,16 @@ use bp_text::{
     Bounds, Draft, Lines, TextError, open_line, push_line, push_wide_line, wide_number_line,
 };
 use bp_types::Certificate;
-use bp_types::limits::{MOST_NIGHTS, MOST_STAYS};
+use bp_types::limits::{MOST_NIGHTS, MOST_STAYS, MOST_VALUE};
 use std::alloc::{AllocError, Global};
 
-/// The value of a certificate, at most, in minor units of money.
-const MOST_VALUE: u128 = 1_000_000_000_000_000_000_000_000_000_000;
-
+/// How many stays a certificate may name; each number fits 64 bits.
 const SALES: Bounds = Bounds {
     most: MOST_STAYS,
     greatest: u64::MAX,
 };
 
+/// How many nights it may name; each number fits 64 bits.
 const PRICES: Bounds = Bounds {
     most: MOST_NIGHTS,
     greatest: u64::MAX,
@@ -47,7 +46,8 @@ pub fn certificate_lines(alloc: Global, lines: &mut Lines<'_>) -> Result<Certifi
     })
 }
 
-/// Writes the three lines of a certificate that say what it claims: `value`, `sell` and `prices`.
+/// Writes the three lines of a certificate that say what it claims: `value`, `sell` and `prices`. After an error a
+/// first part of them is written.
 pub fn write_certificate_lines<K: Sink>(
     alloc: Global,
     certificate: &Certificate,
@@ -64,7 +64,7 @@ pub fn write_certificate_lines<K: Sink>(
     draft.hand_on(out)
 }
 
-/// Puts these three lines behind a draft.
+/// Puts these three lines behind a draft. After an error a first part of the draft's text is written.
 pub fn draft_claim<K: Sink>(
     draft: &mut Draft,
     certificate: &Certificate,
@@ -82,7 +82,7 @@ pub fn draft_claim<K: Sink>(
     draft.push_line(b"prices", &certificate.prices, out)
 }
 
-/// Puts these three lines at the end of a text.
+/// Puts these three lines at the end of a text. The one error is want of memory.
 pub fn push_claim(text: &mut Vec<u8>, certificate: &Certificate) -> Result<(), AllocError>
     ensures { OnOk result (text.new.items ≡ text.old.items ++ text_of (claim_lines certificate.now)) }
 {

@@ -1,5 +1,4 @@
 //! Laws over the texts, as the contracts of functions that do nothing.
-
 ghost use Rattle.bp_cert.specs.Texts.{problem_lines, all_certificate_lines, IsProblem, IsSpeakable};
 ghost use Rattle.bp_text.specs.Laws.{HasOneSpelling, IsPrefixFree, IsReadOneWay};
 

@@ -1,3 +1,4 @@
+//! The loads of all nights, from who arrives and who departs.
 ghost use Rattle.std.specs.Prelude.{◌≡◌, ℕ, ◌<◌, length, slice_index};
 ghost use Rattle.bp_types.specs.Program.{stay_at};
 ghost use Rattle.bp_cert.specs.Verdicts.{NoneAbove};
@@ -20,8 +21,9 @@ struct Moves {
 }
 
 impl Loads {
-    /// The loads of an allocation that keeps to the forecasts, from one pass over the stays and one over
-    /// the nights.
+    /// The loads of an allocation that keeps to the forecasts: `sell` has one number per stay, in units. The load of a
+    /// night is that of the night before, plus who arrives, less who departs: one pass over the stays, and one over the
+    /// nights.
     pub fn of(instance: &Instance, sell: &[u64]) -> Loads
         requires one_each { length sell.now ≡ length instance.now.stays }
         requires within { NoneAbove (λ j. (stay_at instance.now j).forecast) (slice_index sell.now)
@@ -39,7 +41,7 @@ impl Loads {
         Loads { loads }
     }
 
-    /// The load of one night.
+    /// The load of one night, in units.
     pub fn on(&self, night: u32) -> u64
         requires { night < MOST_NODES }
         ensures { result ≡ slice_index self.now.loads night }
@@ -49,6 +51,7 @@ impl Loads {
 }
 
 impl Moves {
+    /// Both, from one pass over the stays.
     fn of(instance: &Instance, sell: &[u64]) -> Moves
         requires one_each { length sell.now ≡ length instance.now.stays }
         requires within { NoneAbove (λ j. (stay_at instance.now j).forecast) (slice_index sell.now)

@@ -1,4 +1,4 @@
-//! The text of a problem.
+//! The text of a problem, read.
 ghost use Rattle.std.specs.Prelude.{◌≡◌, ◌≤◌, length, map, codes, MatchResult, Err};
 ghost use Rattle.bp_types.specs.Program.{Program};
 ghost use Rattle.bp_text.specs.Reading.{IsReading, IsText, GivesLines, seen_as};
@@ -27,6 +27,7 @@ struct Head {
     stays: u64,
 }
 
+/// Reads the lines before the stays.
 fn read_head(alloc: Global, lines: &mut Lines<'_>) -> Result<Head, TextError>
     ensures { MatchResult result
         (λ h. IsHead h.rooms.items h.stays ×
@@ -45,6 +46,7 @@ fn read_head(alloc: Global, lines: &mut Lines<'_>) -> Result<Head, TextError>
     Ok(Head { rooms, stays })
 }
 
+/// Reads the line of one stay.
 fn next_stay(lines: &mut Lines<'_>, nights: u32, numbers: &mut Vec<u64>) -> Result<Stay, TextError>
     requires { nights ≤ MOST_NIGHTS }
     ensures { IsLine (codes "stay") (λ ns. length ns ≡ 4) (IsStayWithin nights) lines.old lines.new (seen_as stay_numbers result) }
@@ -73,6 +75,7 @@ fn next_stay(lines: &mut Lines<'_>, nights: u32, numbers: &mut Vec<u64>) -> Resu
     })
 }
 
+/// Reads the lines of so many stays.
 fn read_stays(
     alloc: Global,
     lines: &mut Lines<'_>,
@@ -96,6 +99,7 @@ fn read_stays(
     Ok(stays)
 }
 
+/// Reads all lines of a problem.
 fn read_lines(alloc: Global, lines: &mut Lines<'_>) -> Result<Instance, TextError>
     ensures { IsReading problem_lines IsProblem lines.old lines.new result }
 {
@@ -105,7 +109,8 @@ fn read_lines(alloc: Global, lines: &mut Lines<'_>) -> Result<Instance, TextErro
     Ok(Instance::within(head.rooms, stays))
 }
 
-/// Reads the text of a problem, or says which line of it is the first wrong one.
+/// Reads the text of a problem, or says which line of it is the first wrong one. A night of the text has at most 10,000
+/// rooms, fewer than an instance may have. It takes the time of the bytes.
 pub fn read_problem(alloc: Global, bytes: &[u8]) -> Result<Instance, TextError>
     ensures { IsText problem_lines IsProblem bytes.now result }
 {

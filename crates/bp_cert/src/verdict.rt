@@ -1,3 +1,4 @@
+//! The checker: whether a certificate certifies an instance, and else the first test that it fails.
 ghost use Rattle.std.specs.Prelude.{◌≡◌, ℕ, ◌<◌, ◌≤◌, length, slice_index, MatchOption};
 ghost use Rattle.bp_types.specs.Program.{load, stay_at};
 ghost use Rattle.bp_types.specs.Optimum.{Certifies};
@@ -18,7 +19,7 @@ pub enum Verdict {
     AboveForecast { stay: u32 },
     /// The night's load, in units, is more than its rooms.
     Overfull { night: u32, load: u128 },
-    /// The worth of the allocation is not the bound of the prices.
+    /// The worth of the allocation is not the bound of the prices; both in minor units of money, times the unit.
     Gap { worth: u128, bound: u128 },
     /// Worth and bound agree, and the stated value is another.
     Misvalued { worth: u128 },
@@ -26,8 +27,13 @@ pub enum Verdict {
     Optimal { value: u128 },
 }
 
-/// Checks a certificate: the first verdict that holds, in the order of `Verdict`, each at its first place.
-/// Its time grows with nights plus stays.
+/// Checks a certificate: the first verdict that holds, in the order of `Verdict`, each at its first place. Its time
+/// grows with nights plus stays.
+///
+/// By weak duality a feasible allocation whose worth is the bound of the prices is optimal, and so are the prices. The
+/// two sums are equal exactly where complementary slackness holds: each night that has a price is full, and of each
+/// stay the forecast is sold where its rate is above the price of its nights, and nothing where it is below. Comparing
+/// the sums tests all of this at once.
 pub fn check(instance: &Instance, certificate: &Certificate) -> Verdict
     ensures first { IsVerdict instance.now certificate.now result }
     ensures exact { Certifies instance.now certificate.now.value certificate.now.sell certificate.now.prices →
@@ -38,6 +44,7 @@ pub fn check(instance: &Instance, certificate: &Certificate) -> Verdict
     first_verdict(instance, certificate)
 }
 
+/// The first test that the certificate fails, or the optimum.
 fn first_verdict(instance: &Instance, certificate: &Certificate) -> Verdict
     ensures first { IsVerdict instance.now certificate.now result }
     ensures exact { Certifies instance.now certificate.now.value certificate.now.sell certificate.now.prices →
@@ -68,6 +75,7 @@ fn first_verdict(instance: &Instance, certificate: &Certificate) -> Verdict
     Verdict::Optimal { value: worth }
 }
 
+/// The first night whose price is above the greatest.
 fn price_too_great(prices: &[u64], nights: u32) -> Option<u32>
     requires { length prices.now ≡ nights }
     ensures { MatchOption result
@@ -82,6 +90,7 @@ fn price_too_great(prices: &[u64], nights: u32) -> Option<u32>
     None
 }
 
+/// The first stay of which more is sold than its forecast.
 fn above_forecast(instance: &Instance, sell: &[u64]) -> Option<u32>
     requires { length sell.now ≡ length instance.now.stays }
     ensures { MatchOption result
@@ -97,6 +106,7 @@ fn above_forecast(instance: &Instance, sell: &[u64]) -> Option<u32>
     None
 }
 
+/// The first night whose load is more than its rooms, with that load.
 fn overfull_night(instance: &Instance, sell: &[u64]) -> Option<(u32, u128)>
     requires one_each { length sell.now ≡ length instance.now.stays }
     requires within { NoneAbove (λ j. (stay_at instance.now j).forecast) (slice_index sell.now)

@@ -1,3 +1,5 @@
+-- Lemmas on lines of words.
+
 -- The task that words mean, if they mean one: by it a line means one task alone, and what is not plain is told.
 pub mod Meaning
 -- Numbers of 1 to 9 digits.

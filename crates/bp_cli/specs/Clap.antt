@@ -34,9 +34,11 @@ pub record DeskLine : Type 0 where
   pub names : FiveNames
   pub workers : Option Word
 
+-- these words, one after the other
 abbrev pub words_of : DeskLine → List Word
 words_of line = names_and line.names (workers_words line.workers)
 
+-- the words are plain: each name is one that a file may have, and the word for the workers is no option of its own
 pub record IsPlainLine (line : DeskLine) : Type 0 where
   pub names : AreFileNames line.names
   pub workers : IsPlainOption line.workers

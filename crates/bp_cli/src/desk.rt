@@ -31,6 +31,7 @@ fn are_file_names(hotel: &str, stays: &str, forecast: &str, bookings: &str, last
         && is_file_name(last)
 }
 
+/// A replay, where each name is one that a file may have.
 fn replay_of<'a>(
     hotel: &'a str,
     stays: &'a str,
@@ -38,7 +39,8 @@ fn replay_of<'a>(
     bookings: &'a str,
     journal: &'a str,
 ) -> Option<Task<'a>>
-    ensures { IsReadOf (codes "replay" ∷ hotel.now ∷ stays.now ∷ forecast.now ∷ bookings.now ∷ journal.now ∷ []) result }
+    ensures { IsReadOf
+        (codes "replay" ∷ hotel.now ∷ stays.now ∷ forecast.now ∷ bookings.now ∷ journal.now ∷ []) result }
 {
     if !are_file_names(hotel, stays, forecast, bookings, journal) {
         return None;
@@ -52,6 +54,7 @@ fn replay_of<'a>(
     })
 }
 
+/// The words behind `replay`: five names.
 pub(crate) fn replay_line(words: &[String]) -> Option<Task<'_>>
     ensures { IsReadOf (codes "replay" ∷ texts words.now) result }
 {
@@ -67,6 +70,7 @@ pub(crate) fn replay_line(words: &[String]) -> Option<Task<'_>>
     }
 }
 
+/// A report, where each name is one that a file may have.
 fn report_of<'a>(
     hotel: &'a str,
     stays: &'a str,
@@ -74,7 +78,8 @@ fn report_of<'a>(
     bookings: &'a str,
     journal: &'a str,
 ) -> Option<Task<'a>>
-    ensures { IsReadOf (codes "report" ∷ hotel.now ∷ stays.now ∷ forecast.now ∷ bookings.now ∷ journal.now ∷ []) result }
+    ensures { IsReadOf
+        (codes "report" ∷ hotel.now ∷ stays.now ∷ forecast.now ∷ bookings.now ∷ journal.now ∷ []) result }
 {
     if !are_file_names(hotel, stays, forecast, bookings, journal) {
         return None;
@@ -88,6 +93,7 @@ fn report_of<'a>(
     })
 }
 
+/// The words behind `report`: five names.
 pub(crate) fn report_line(words: &[String]) -> Option<Task<'_>>
     ensures { IsReadOf (codes "report" ∷ texts words.now) result }
 {
@@ -112,7 +118,8 @@ fn are_workers(option: &str, workers: &str) -> bool
 
 /// Whether five words behind `desk` are those of a plain line.
 fn is_desk(hotel: &str, stays: &str, forecast: &str, bookings: &str, script: &str) -> bool
-    ensures { IsTrue result ↔ IsPlain (codes "desk" ∷ hotel.now ∷ stays.now ∷ forecast.now ∷ bookings.now ∷ script.now ∷ []) }
+    ensures { IsTrue result ↔ IsPlain
+        (codes "desk" ∷ hotel.now ∷ stays.now ∷ forecast.now ∷ bookings.now ∷ script.now ∷ []) }
 {
     are_file_names(hotel, stays, forecast, bookings, script)
 }
@@ -127,7 +134,9 @@ fn is_desk_by(
     option: &str,
     workers: &str,
 ) -> bool
-    ensures { IsTrue result ↔ IsPlain (codes "desk" ∷ hotel.now ∷ stays.now ∷ forecast.now ∷ bookings.now ∷ script.now ∷ option.now ∷ workers.now ∷ []) }
+    ensures { IsTrue result ↔ IsPlain
+        (codes "desk" ∷ hotel.now ∷ stays.now ∷ forecast.now ∷ bookings.now ∷ script.now ∷ option.now ∷ workers.now ∷
+        []) }
 {
     are_file_names(hotel, stays, forecast, bookings, script) && are_workers(option, workers)
 }
@@ -170,8 +179,9 @@ fn workers_of(given: Option<&str>) -> Option<u32>
 /// The task of a plain line, by what was read of it.
 fn task_of(words: DeskWords<'_>) -> Option<Task<'_>>
     ensures { (line : DeskLine) → IsPlain (codes "desk" ∷ words_of line)
-        → Gives line (option_map (λ s. s.now) words.entry.hotel) (option_map (λ s. s.now) words.entry.stays) (option_map (λ s. s.now) words.entry.forecast)
-        (option_map (λ s. s.now) words.entry.bookings) (option_map (λ s. s.now) words.entry.script) (option_map (λ s. s.now) words.entry.workers)
+        → Gives line (option_map (λ s. s.now) words.entry.hotel) (option_map (λ s. s.now) words.entry.stays)
+        (option_map (λ s. s.now) words.entry.forecast) (option_map (λ s. s.now) words.entry.bookings)
+        (option_map (λ s. s.now) words.entry.script) (option_map (λ s. s.now) words.entry.workers)
         → MatchOption result ⊥ (λ t. Asks (codes "desk" ∷ words_of line) (asked t)) }
 {
     Some(Task::Desk {
@@ -184,6 +194,7 @@ fn task_of(words: DeskWords<'_>) -> Option<Task<'_>>
     })
 }
 
+/// The words behind `desk`: five names, and perhaps a number of workers.
 pub(crate) fn desk_line<'a>(alloc: Global, words: &'a [String]) -> Result<Task<'a>, WordsError>
     ensures { IsAnswered (codes "desk" ∷ texts words.entry.now) result }
 {

@@ -12,11 +12,17 @@ use std::alloc::{AllocError, Global};
 /// The five names of a desk's line, and its number of workers.
 #[derive(Clone, Copy)]
 pub(crate) struct DeskWords<'a> {
+    /// The hotel file.
     pub hotel: Option<&'a str>,
+    /// The stays file.
     pub stays: Option<&'a str>,
+    /// The forecast file.
     pub forecast: Option<&'a str>,
+    /// The bookings file.
     pub bookings: Option<&'a str>,
+    /// The script.
     pub script: Option<&'a str>,
+    /// The number of workers, where the line gives one.
     pub workers: Option<&'a str>,
 }
 
@@ -28,6 +34,7 @@ fn file<'a>(alloc: Global, id: &'a str) -> Arg<'a>
     Arg::new(alloc, id).required(true)
 }
 
+/// The option for a number of workers.
 fn workers<'a>(alloc: Global) -> Arg<'a>
     ensures rule { rule_of result ≡ workers_rule }
     ensures plain { result.global ≡ false }
@@ -35,12 +42,14 @@ fn workers<'a>(alloc: Global) -> Arg<'a>
     Arg::new(alloc, "workers").long("workers")
 }
 
+/// A command without words of its own.
 fn named<'a>(alloc: Global) -> Command<'a>
     ensures { app_of result ≡ named }
 {
     Command::new(alloc, "desk").no_binary_name(true)
 }
 
+/// The command with a word more.
 fn with<'a>(command: Command<'a>, arg: Arg<'a>) -> Result<Command<'a>, AllocError>
     requires { arg.global ≡ false }
     ensures { IfOk result (λ r. app_of r ≡ with_rule (app_of command.entry) (rule_of arg.entry)) }

@@ -1,3 +1,5 @@
+//! Why words ask for nothing.
+
 /// Why words ask for nothing.
 #[derive(Clone, Copy, Debug, PartialEq, Eq, Drop)]
 pub enum WordsError {

@@ -1,3 +1,4 @@
+//! The command that the first word of a line names.
 ghost use Rattle.std.specs.Prelude.{◌≡◌};
 ghost use Rattle.bp_cli.specs.Forms.{form_of};
 
@@ -17,6 +18,7 @@ pub(crate) enum Form {
     Portfolio,
 }
 
+/// The form that a command names, if it is one.
 pub(crate) fn form_of(command: &str) -> Option<Form>
     ensures { result ≡ form_of command.now }
 {

@@ -1,3 +1,4 @@
+//! A line of words, read by its command.
 ghost use Rattle.std.specs.Prelude.{◌∷◌};
 ghost use Rattle.bp_cli.specs.Words.{texts};
 ghost use Rattle.bp_cli.specs.Asked.{IsAnswered};
@@ -32,7 +33,8 @@ fn task_by<'a>(alloc: Global, form: Form, words: &'a [String]) -> Result<Task<'a
     task.ok_or(WordsError::Usage)
 }
 
-/// What the words ask for, where they are a plain line.
+/// What the words behind the program's name ask for, where they are a plain line; else `Usage`. `Memory` says nothing
+/// of the words.
 ///
 /// The names of files stand in the task as the words give them.
 pub fn parse<'a>(alloc: Global, words: &'a [String]) -> Result<Task<'a>, WordsError>

@@ -1,3 +1,4 @@
+//! The names of files, as words give them.
 ghost use Rattle.std.specs.Prelude.{◌≡◌, ◌↔◌, IsTrue};
 ghost use Rattle.bp_cli.specs.Words.{IsFileName};
 

@@ -8,6 +8,7 @@ use crate::number::{WORKERS, number_of, number_within};
 use crate::{Name, Task};
 use bp_types::limits::{MOST_GROUP_ROOMS, MOST_NIGHTS, MOST_ROOMS, MOST_STAYS, MOST_WORKERS};
 
+/// A check, where files may have these names.
 fn check_of<'a>(problem: &'a str, certificate: &'a str) -> Option<Task<'a>>
     ensures { IsReadOf (codes "check" ∷ problem.now ∷ certificate.now ∷ []) result }
 {
@@ -20,6 +21,7 @@ fn check_of<'a>(problem: &'a str, certificate: &'a str) -> Option<Task<'a>>
     })
 }
 
+/// The words behind `check`: a problem and a certificate.
 pub(crate) fn check_line(words: &[String]) -> Option<Task<'_>>
     ensures { IsReadOf (codes "check" ∷ texts words.now) result }
 {
@@ -29,6 +31,7 @@ pub(crate) fn check_line(words: &[String]) -> Option<Task<'_>>
     }
 }
 
+/// A solution, where a file may have this name.
 fn solve_of<'a>(problem: &'a str) -> Option<Task<'a>>
     ensures { IsReadOf (codes "solve" ∷ problem.now ∷ []) result }
 {
@@ -40,6 +43,7 @@ fn solve_of<'a>(problem: &'a str) -> Option<Task<'a>>
     })
 }
 
+/// The words behind `solve`: a problem.
 pub(crate) fn solve_line(words: &[String]) -> Option<Task<'_>>
     ensures { IsReadOf (codes "solve" ∷ texts words.now) result }
 {
@@ -49,6 +53,8 @@ pub(crate) fn solve_line(words: &[String]) -> Option<Task<'_>>
     }
 }
 
+/// A group of 1 to `MOST_GROUP_ROOMS` rooms, where a file may have this name. Whether the nights are the problem's is
+/// not asked here.
 fn group_of<'a>(problem: &'a str, from: &str, to: &str, rooms: &str) -> Option<Task<'a>>
     ensures { IsReadOf (codes "group" ∷ problem.now ∷ from.now ∷ to.now ∷ rooms.now ∷ []) result }
 {
@@ -67,6 +73,7 @@ fn group_of<'a>(problem: &'a str, from: &str, to: &str, rooms: &str) -> Option<T
     })
 }
 
+/// The words behind `group`: a problem, the night of arrival and that of departure, and a number of rooms.
 pub(crate) fn group_line(words: &[String]) -> Option<Task<'_>>
     ensures { IsReadOf (codes "group" ∷ texts words.now) result }
 {
@@ -78,6 +85,7 @@ pub(crate) fn group_line(words: &[String]) -> Option<Task<'_>>
     }
 }
 
+/// A judgement, where files may have these names.
 fn judge_of<'a>(problem: &'a str, journal: &'a str) -> Option<Task<'a>>
     ensures { IsReadOf (codes "judge" ∷ problem.now ∷ journal.now ∷ []) result }
 {
@@ -90,6 +98,7 @@ fn judge_of<'a>(problem: &'a str, journal: &'a str) -> Option<Task<'a>>
     })
 }
 
+/// The words behind `judge`: a problem and a journal.
 pub(crate) fn judge_line(words: &[String]) -> Option<Task<'_>>
     ensures { IsReadOf (codes "judge" ∷ texts words.now) result }
 {
@@ -99,6 +108,7 @@ pub(crate) fn judge_line(words: &[String]) -> Option<Task<'_>>
     }
 }
 
+/// Scenarios, where files may have these names.
 fn scenarios_of<'a>(problem: &'a str, changes: &'a str) -> Option<Task<'a>>
     ensures { IsReadOf (codes "scenarios" ∷ problem.now ∷ changes.now ∷ []) result }
 {
@@ -111,6 +121,7 @@ fn scenarios_of<'a>(problem: &'a str, changes: &'a str) -> Option<Task<'a>>
     })
 }
 
+/// The words behind `scenarios`: a problem and a file of changes.
 pub(crate) fn scenarios_line(words: &[String]) -> Option<Task<'_>>
     ensures { IsReadOf (codes "scenarios" ∷ texts words.now) result }
 {
@@ -120,6 +131,7 @@ pub(crate) fn scenarios_line(words: &[String]) -> Option<Task<'_>>
     }
 }
 
+/// A sheet, where a file may have this name.
 fn sheet_of<'a>(problem: &'a str) -> Option<Task<'a>>
     ensures { IsReadOf (codes "sheet" ∷ problem.now ∷ []) result }
 {
@@ -131,6 +143,7 @@ fn sheet_of<'a>(problem: &'a str) -> Option<Task<'a>>
     })
 }
 
+/// The words behind `sheet`: a problem.
 pub(crate) fn sheet_line(words: &[String]) -> Option<Task<'_>>
     ensures { IsReadOf (codes "sheet" ∷ texts words.now) result }
 {
@@ -140,6 +153,7 @@ pub(crate) fn sheet_line(words: &[String]) -> Option<Task<'_>>
     }
 }
 
+/// A demo, where each number is within its limit.
 fn demo_of<'a>(seed: &str, nights: &str, rooms: &str, stays: &str) -> Option<Task<'a>>
     ensures { IsReadOf (codes "demo" ∷ seed.now ∷ nights.now ∷ rooms.now ∷ stays.now ∷ []) result }
 {
@@ -155,6 +169,7 @@ fn demo_of<'a>(seed: &str, nights: &str, rooms: &str, stays: &str) -> Option<Tas
     })
 }
 
+/// The words behind `demo`: a seed, nights, rooms on each night, and stays.
 pub(crate) fn demo_line(words: &[String]) -> Option<Task<'_>>
     ensures { IsReadOf (codes "demo" ∷ texts words.now) result }
 {
@@ -169,6 +184,7 @@ pub(crate) fn demo_line(words: &[String]) -> Option<Task<'_>>
     }
 }
 
+/// A portfolio with as many workers as where no line says how many.
 fn portfolio_of<'a>(list: &'a str) -> Option<Task<'a>>
     ensures { IsReadOf (codes "portfolio" ∷ list.now ∷ []) result }
 {
@@ -193,6 +209,7 @@ fn portfolio_by<'a>(list: &'a str, option: &str, workers: &str) -> Option<Task<'
     Some(Task::Portfolio { list, workers })
 }
 
+/// The words behind `portfolio`: a list, and perhaps a number of workers.
 pub(crate) fn portfolio_line(words: &[String]) -> Option<Task<'_>>
     ensures { IsReadOf (codes "portfolio" ∷ texts words.now) result }
 {

@@ -1,3 +1,4 @@
+//! What a plain line asks for.
 use crate::Name;
 
 /// What a plain line asks for, with the names of its files.

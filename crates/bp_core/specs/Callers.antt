@@ -12,10 +12,12 @@ use Rattle.bp_core.specs.Lines.{History, is_by}
 abbrev pub greatest_caller : ℕ
 greatest_caller = CALLERS - 1
 
+-- the act is an enrolment
 abbrev pub is_enrol : Act → Bool
 is_enrol Enrol = true
 is_enrol _ = false
 
+-- the act is a leave
 abbrev pub is_leave : Act → Bool
 is_leave Leave = true
 is_leave _ = false
@@ -32,9 +34,11 @@ is_enrol_by caller x = is_by caller x && is_enrol x.entry.act
 abbrev pub is_leave_by : ℕ → Line → Bool
 is_leave_by caller x = is_by caller x && is_leave x.entry.act
 
+-- the caller has enrolled
 abbrev pub has_enrolled : History → ℕ → Bool
 has_enrolled H caller = list_any (is_enrol_by caller) H
 
+-- the caller has left
 abbrev pub has_left : History → ℕ → Bool
 has_left H caller = list_any (is_leave_by caller) H
 

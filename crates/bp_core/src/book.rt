@@ -1,3 +1,4 @@
+//! The book of a house: each call is judged by the rules of the desk, answered, and logged with its reply.
 ghost use Rattle.std.specs.Prelude.{
   ◌≡◌,
   ◌+◌,
@@ -76,13 +77,20 @@ use std::sync::Arc;
 /// The desk of a house: its history so far, each entry with the reply of its moment.
 ///
 /// Contracts see the house and the history, in which each Publish has the certificate of its board.
+///
+/// What the house and the history say of rooms, forecasts and rates is kept beside them. So a call costs the same time
+/// however long the history is, but for `changes` and `changes_until`, whose time grows with the entries that they
+/// read.
 #[derive(Drop)]
 pub struct Book {
     house: House,
     log: Log,
     roll: Roll,
+    /// The rooms and sold rooms of each night, in whole rooms.
     ledger: Ledger,
+    /// The forecast of each stay, in units of the house.
     forecasts: Vec<u64>,
+    /// The rate of each stay, in minor units of money.
     rates: Vec<u64>,
 }
 
@@ -101,7 +109,8 @@ impl Model for Book {
 const MOST_CALLERS: u32 = CALLERS as u32 - 1;
 
 impl Book {
-    /// The book of a house that opens with a vector, by caller 0 at position 0. All its room is taken here.
+    /// The book of a house that opens with a vector, by caller 0 at position 0. All its room is taken here, for as many
+    /// commands and vectors as the limits of the house allow; the one error is `Memory`.
     pub fn new(alloc: Global, house: House, board: Arc<Board>) -> Result<Book, Memory>
         requires position { (arc_value board).position ≡ 0 }
         requires certificate { IsCertificateOf (opening house) (arc_value board).certificate }
@@ -125,7 +134,9 @@ impl Book {
         })
     }
 
-    /// Answers a call. The history has one entry more exactly where the answer is `Logged`, and is else as before.
+    /// Answers a call. The history has one entry more exactly where the answer is `Logged`, and is else as before. It
+    /// takes no memory. Its time grows with the levels of the ledger's tree; where rooms are given back, at worst with
+    /// the nights of their span too.
     pub fn act(&mut self, caller: u32, call: Call) -> Answer
         requires { MayCall self.old caller call }
         ensures answered { IsAnswered self.old self.new caller call result }
@@ -136,6 +147,7 @@ impl Book {
         answer
     }
 
+    /// Answers a call by its kind.
     fn answer(&mut self, caller: u32, call: Call) -> Answer
         requires { MayCall self.old caller call }
         ensures { IsAnswered self.old self.new caller call result }
@@ -148,6 +160,7 @@ impl Book {
         }
     }
 
+    /// Answers a command, unless as many as the limits allow are logged.
     fn command(&mut self, caller: u32, command: Command, quoted: Option<Quoted>) -> Answer
         requires { MayCall self.old caller (Call.Do command quoted) }
         ensures { IsAnswered self.old self.new caller (Call.Do command quoted) result }
@@ -169,6 +182,8 @@ impl Book {
         }
     }
 
+    /// A booking, where the last vector is fresh enough to judge it. Whatever the reply, the stay's forecast falls by
+    /// one stay.
     fn book(&mut self, caller: u32, stay: u32) -> Answer
         requires { MayDo self.old caller (Command.Book stay) }
         ensures { IsDone self.old self.new caller (Command.Book stay) None result }
@@ -212,7 +227,8 @@ impl Book {
         }
     }
 
-    /// The reply to a booking, by the last vector and the rooms left.
+    /// The reply to a booking, by the last vector and the rooms left: bid-price control. The rate has to reach the sum
+    /// of the prices of the stay's nights, and a tie is enough; then each night has to have a room.
     fn book_reply(&self, stay: u32) -> Reply
         requires { stay < length self.now.house.stays }
         ensures { result ≡ book_reply self.now.house self.now.history stay }
@@ -230,6 +246,7 @@ impl Book {
         }
     }
 
+    /// Gives up a caller's nth booking call, counted from 1, where it is held.
     fn cancel(&mut self, caller: u32, nth: u64) -> Answer
         requires { MayDo self.old caller (Command.Cancel nth) }
         ensures { IsDone self.old self.new caller (Command.Cancel nth) None result }
@@ -285,6 +302,7 @@ impl Book {
         )
     }
 
+    /// Sets the forecast of a stay, in units.
     fn reforecast(&mut self, caller: u32, stay: u32, count: u64) -> Answer
         requires { MayDo self.old caller (Command.Reforecast stay count) }
         ensures { IsDone self.old self.new caller (Command.Reforecast stay count) None result }
@@ -300,6 +318,7 @@ impl Book {
         )
     }
 
+    /// Sets the rate of a stay, in minor units of money.
     fn reprice(&mut self, caller: u32, stay: u32, rate: u64) -> Answer
         requires { MayDo self.old caller (Command.Reprice stay rate) }
         ensures { IsDone self.old self.new caller (Command.Reprice stay rate) None result }
@@ -315,6 +334,7 @@ impl Book {
         )
     }
 
+    /// Sets the rooms of a night, in whole rooms, unless more of them are sold.
     fn resize(&mut self, caller: u32, night: u32, rooms: u64) -> Answer
         requires { MayDo self.old caller (Command.Resize night rooms) }
         ensures { IsDone self.old self.new caller (Command.Resize night rooms) None result }
@@ -333,6 +353,8 @@ impl Book {
         }
     }
 
+    /// A group of so many rooms on each night of a span, for an amount in minor units of money. Where a night lacks the
+    /// rooms, no quote is needed.
     fn group(
         &mut self,
         caller: u32,
@@ -367,6 +389,9 @@ impl Book {
         }
     }
 
+    /// A group that there are rooms for, judged by its displacement, unless a change stands after the quote's position.
+    /// The displacement is in minor units of money times the unit of the house, and so the amount is multiplied by the
+    /// unit.
     fn quoted_group(
         &mut self,
         caller: u32,
@@ -417,6 +442,7 @@ impl Book {
         }
     }
 
+    /// Publishes a board, where so many changes at least stand from the last vector's position to its own.
     fn publish(&mut self, caller: u32, board: Arc<Board>, least: u64) -> Answer
         requires { MayCall self.old caller (Call.Publish board least) }
         ensures { IsAnswered self.old self.new caller (Call.Publish board least) result }
@@ -433,6 +459,7 @@ impl Book {
         Answer::Logged(Reply::Vector { number })
     }
 
+    /// The first entry of a caller.
     fn enrol(&mut self, caller: u32) -> Answer
         requires { MayCall self.old caller Call.Enrol }
         ensures { IsAnswered self.old self.new caller Call.Enrol result }
@@ -441,6 +468,7 @@ impl Book {
         logged(&mut self.log, caller, Act::Enrol, Reply::Done, Deltas::None)
     }
 
+    /// The last entry of a caller.
     fn leave(&mut self, caller: u32) -> Answer
         requires { MayCall self.old caller Call.Leave }
         ensures { IsAnswered self.old self.new caller Call.Leave result }
@@ -517,7 +545,7 @@ impl Book {
         self.changes_up_to(position, self.log.len())
     }
 
-    /// How many of the callers from 1 to a number have left.
+    /// How many of the callers from 1 to a number have left. Numbers that no caller can have are passed over.
     pub fn left(&self, sessions: u32) -> u32
         ensures { result ≡ left_of self.now.history sessions }
     {
@@ -641,9 +669,8 @@ impl Book {
         self.rates[stay as usize]
     }
 
-    /// Fills in the changes of the entries from a position on, whole entries only and as many as fit, and
-    /// answers the position reached. Applied in turn to the instance at `from` they keep to its limits and
-    /// give the instance there.
+    /// Fills in the changes of the entries from a position on, whole entries only and as many as fit, and answers the
+    /// position reached. Applied in turn to the instance at `from` they keep to its limits and give the instance there.
     pub fn changes(&self, from: u64, into: &mut Vec<Change>) -> u64
         requires within { from ≤ length self.now.history }
         requires empty { into.old.items ≡ [] }
@@ -679,12 +706,14 @@ impl Book {
     }
 }
 
+/// Whether a booking was accepted.
 fn is_accepted(reply: &Reply) -> bool
     ensures { result ≡ is_accepted reply.now }
 {
     matches!(reply, Reply::Accepted { .. })
 }
 
+/// Whether there is a booking, and it was given up.
 fn was_given_up(booking: Option<Booking>) -> bool
     ensures { result ≡ was_given_up booking }
 {
@@ -710,6 +739,7 @@ fn published_number(entry: Option<Entry>) -> Option<u64>
     }
 }
 
+/// The certificate of a board, if there is one.
 fn certificate_of(board: Option<&Arc<Board>>) -> Option<&Certificate>
     ensures { option_map (λ c. c.now) result ≡
         option_map (λ (b : Posted). b.certificate) (option_map (λ b. arc_value b.now) board.entry) }
@@ -737,7 +767,7 @@ fn logged(log: &mut Log, caller: u32, act: Act, reply: Reply, deltas: Deltas) ->
     Answer::Logged(reply)
 }
 
-/// By how many units the rooms of a night move.
+/// How the rooms of a night move from an old number to a new one: up or down, by so many units.
 fn resize_delta(unit: u64, night: u32, old: u64, new: u64) -> Change
     requires unit { unit ≤ HUNDREDTHS }
     requires old { old ≤ MOST_ROOMS }
@@ -758,6 +788,7 @@ fn resize_delta(unit: u64, night: u32, old: u64, new: u64) -> Change
     }
 }
 
+/// The rooms and sold rooms of the house's nights.
 fn opening_ledger(alloc: Global, house: &House) -> Result<Ledger, Memory>
     ensures { IfOk result (λ l. (l.rooms ≡ house.now.rooms) × (l.sold ≡ house.now.sold)) }
 {
@@ -770,6 +801,7 @@ fn opening_ledger(alloc: Global, house: &House) -> Result<Ledger, Memory>
     Ledger::new(alloc, &rooms, &sold)
 }
 
+/// The forecast of each of the house's stays.
 fn opening_forecasts(alloc: Global, house: &House) -> Result<Vec<u64>, Memory>
     ensures { IfOk result (λ v. v.items ≡ map (λ (s : Stay). s.forecast) house.now.stays) }
 {
@@ -780,6 +812,7 @@ fn opening_forecasts(alloc: Global, house: &House) -> Result<Vec<u64>, Memory>
     Ok(forecasts)
 }
 
+/// The rate of each of the house's stays.
 fn opening_rates(alloc: Global, house: &House) -> Result<Vec<u64>, Memory>
     ensures { IfOk result (λ v. v.items ≡ map (λ (s : Stay). s.rate) house.now.stays) }
 {

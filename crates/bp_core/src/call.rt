@@ -1,3 +1,4 @@
+//! What callers ask of a book, and what it answers.
 use crate::Reply;
 use bp_board::Board;
 use bp_types::{Command, Quoted};
@@ -11,12 +12,14 @@ pub enum Call {
         command: Command,
         quoted: Option<Quoted>,
     },
-    /// To publish a board, where so many changes at least stand from the last vector's position to its own.
+    /// To publish a board, where so many changes at least, `least`, stand from the last vector's position to its own.
     Publish {
         board: Arc<Board>,
         least: u64,
     },
+    /// To become one of those who may act.
     Enrol,
+    /// To act no more.
     Leave,
 }
 
@@ -27,13 +30,13 @@ pub enum Answer {
     Logged(Reply),
     /// As many commands as the limits allow are logged.
     HistoryFull,
-    /// So many changes stand after the last vector's position: a new vector has to come first.
+    /// So many changes stand after this position, the last vector's: a new vector has to come first.
     Behind { position: u64, changes: u64 },
     /// A group that there are rooms for needs a quote.
     Unquoted,
     /// So many changes stand after the quote's position.
     Stale { changes: u64 },
-    /// So many changes stand from the last vector's position to the board's, fewer than were asked for.
+    /// So many changes stand from this position, the last vector's, to the board's, fewer than were asked for.
     Superseded { position: u64, changes: u64 },
     /// As many vectors as the limits allow are published.
     PublicationsFull,

@@ -1,3 +1,4 @@
+//! A list of calls, made on a book one after the other.
 ghost use Rattle.std.specs.Prelude.{◌≡◌, MatchResult};
 ghost use Rattle.bp_core.specs.Legal.{IsLegal};
 ghost use Rattle.bp_core.specs.Calls.{MayMakeAll, AreAnswered, Continues};
@@ -13,7 +14,8 @@ pub struct Made {
     pub call: Call,
 }
 
-/// Makes the calls of a list one after the other, and gives the answer of each. After `Memory` none was made.
+/// Makes the calls of a list one after the other, and gives the answer of each, in their order. The one error is
+/// `Memory`, for the list of answers, and then none was made.
 pub fn make_all(alloc: Global, book: &mut Book, calls: Vec<Made>) -> Result<Vec<Answer>, Memory>
     requires { MayMakeAll book.old calls.items }
     ensures answered { MatchResult result (λ answers. AreAnswered book.old book.new calls.items answers.items)

@@ -1,3 +1,4 @@
+//! The changes of the instance that one entry makes: none, one or two, in order.
 ghost use Rattle.std.specs.Prelude.{◌≡◌, length, ◌<◌, ◌+◌, ◌++◌, vec_len, vec_capacity};
 ghost use Rattle.bp_core.specs.Deltas.{delta_list};
 

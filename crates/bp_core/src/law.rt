@@ -1,5 +1,4 @@
 //! Laws over histories, as the contracts of functions that do nothing.
-
 ghost use Rattle.bp_core.specs.Laws.{PrefixesAreLegal, NeverOversold, DeltasLead, EveryListIsLegal};
 ghost use Rattle.bp_core.specs.Staying.{
   RightStaysRight,
@@ -37,14 +36,14 @@ pub fn never_oversold()
     ensures { NeverOversold }
 {}
 
-/// The changes that stand between two positions of a legal history lead from the instance at the one to that
-/// at the other, each within the limits.
+/// The changes that stand between two positions of a legal history lead from the instance at the one to that at the
+/// other, each within the limits.
 pub fn deltas_lead()
     ensures { DeltasLead }
 {}
 
-/// From the opening on, whatever list of calls that meet their conditions is made, the history is legal and no
-/// night is oversold.
+/// From the opening on, whatever list of calls that meet their conditions is made, the history is legal and no night is
+/// oversold.
 pub fn every_list_is_legal()
     ensures { EveryListIsLegal }
 {}
@@ -161,8 +160,8 @@ pub fn answers_say()
     ensures { AnswersSay }
 {}
 
-/// In a legal history a Book is accepted exactly where the stay's rate is at least the sum of the prices of its
-/// nights in the last vector before it, and every night of the stay has a room.
+/// In a legal history a Book is accepted exactly where the stay's rate is at least the sum of the prices of its nights
+/// in the last vector before it, and every night of the stay has a room.
 pub fn accepted_exactly()
     ensures { AcceptedExactly }
 {}

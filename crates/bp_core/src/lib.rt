@@ -1,7 +1,10 @@
 //! The pure desk: a history of entries, each the answer of its moment, with no thread and no clock.
 //!
-//! Nights, stays and places are numbered from 0, rooms are whole rooms, forecasts and displacements are
-//! counted in the units of the house, and money is in minor units.
+//! Nights, stays and places are numbered from 0, rooms are whole rooms, forecasts and displacements are counted in the
+//! units of the house, and money is in minor units.
+//!
+//! Bookings are judged by bid-price control (Talluri and van Ryzin, *The Theory and Practice of Revenue Management*,
+//! 2004): one is accepted where its rate is at least the sum of the prices of its nights, and each night has a room.
 //!
 //! A book opens with a board that is right for its house.
 //!

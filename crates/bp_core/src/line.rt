@@ -1,3 +1,4 @@
+//! The lines of a history: who, what and which reply, and the certificate of a vector.
 use bp_types::{Certificate, Command};
 
 /// What an entry of the history was about.
@@ -28,12 +29,13 @@ pub enum Reply {
     NotBooked,
     /// The booking was given up before.
     AlreadyCancelled,
+    /// It is done: the forecast, the rate or the rooms are set, or the caller has enrolled or left.
     Done,
-    /// So many rooms of the night are sold, more than were asked for.
+    /// So many rooms of the night are sold, more than were asked for, and the rooms stay as they are.
     BelowSold { sold: u64 },
-    /// The group is booked; in minor units of money, times the unit of the house.
+    /// The group is booked. Its displacement is in minor units of money times the unit of the house.
     GroupAccepted { displacement: u128 },
-    /// The amount is below this displacement.
+    /// The amount times the unit is below this displacement.
     GroupTooLow { displacement: u128 },
     /// The first night of the span with fewer rooms left.
     GroupNoRoom { night: u32 },

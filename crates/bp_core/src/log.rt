@@ -1,3 +1,4 @@
+//! The entries of a history and the boards of its vectors, with the number of changes before each place.
 ghost use Rattle.std.specs.Prelude.{
   ◌≡◌,
   ◌+◌,
@@ -162,7 +163,7 @@ impl Log {
         &self.boards[self.boards.len() - 1]
     }
 
-    /// The changes at the places from one up to, and not including, another.
+    /// How many changes stand at the places from one up to, and not including, another: a difference of two counts.
     pub(crate) fn changes_between(&self, from: u64, until: u64) -> u64
         requires ordered { from ≤ until }
         requires within { until ≤ length self.now.lines }
@@ -171,8 +172,8 @@ impl Log {
         self.counts[until as usize] - self.counts[from as usize]
     }
 
-    /// Fills in what the entries from one place up to another change, whole entries only and as many as fit,
-    /// and answers the place reached.
+    /// Fills in what the entries from one place up to another change, whole entries only and as many as fit, and
+    /// answers the place reached.
     pub(crate) fn fill(&self, from: u64, until: u64, into: &mut Vec<Change>) -> u64
         requires ordered { from ≤ until }
         requires within { until ≤ length self.now.lines }
@@ -219,12 +220,14 @@ impl Log {
     }
 }
 
+/// Whether the act of an entry is a command.
 fn is_command(entry: &Entry) -> bool
     ensures { result ≡ is_command (record { entry = entry.now; certificate = None }) }
 {
     matches!(entry.act, Act::Do(_))
 }
 
+/// Whether an entry moves the instance.
 fn is_change(entry: &Entry) -> bool
     ensures { result ≡ is_change (record { entry = entry.now; certificate = None }) }
 {

@@ -1,3 +1,4 @@
+//! Whether the numbers of an act are within their limits, and its stay, night or span is one of the house.
 ghost use Rattle.std.specs.Prelude.{◌≡◌};
 ghost use Rattle.bp_types.specs.House.{is_from_one};
 ghost use Rattle.bp_types.specs.Spans.{is_within};
@@ -19,6 +20,7 @@ pub fn is_in_range(house: &House, act: Act) -> bool
     }
 }
 
+/// The same of a command.
 fn is_command_in_range(house: &House, command: Command) -> bool
     ensures { result ≡ is_command_in_range house.now command }
 {
@@ -40,12 +42,14 @@ fn is_command_in_range(house: &House, command: Command) -> bool
     }
 }
 
+/// Whether a number is one of 1 to the greatest.
 fn is_from_one(most: u64, number: u64) -> bool
     ensures { result ≡ is_from_one most number }
 {
     1 <= number && number <= most
 }
 
+/// Whether a span has a night, and only nights below this number.
 fn is_within(nights: u32, span: Span) -> bool
     ensures { result ≡ is_within nights span }
 {

@@ -1,3 +1,4 @@
+//! The callers of a book: whether each has enrolled or left, and its booking calls in order.
 ghost use Rattle.std.specs.Prelude.{
   ◌≡◌,
   ◌+◌,
@@ -33,16 +34,22 @@ use std::marker::Model;
 /// What a caller has done of enrolling and leaving.
 #[derive(Clone, Copy, Debug, PartialEq, Eq)]
 pub(crate) enum Standing {
+    /// It has not enrolled.
     New,
+    /// It has enrolled and not left.
     Present,
+    /// It has left.
     Gone,
 }
 
 /// What became of a booking call.
 #[derive(Clone, Copy, Debug, PartialEq, Eq)]
 pub(crate) enum Fate {
+    /// It was accepted, and is not given up.
     Held,
+    /// It was not accepted.
     Refused,
+    /// It was accepted, and given up later.
     GivenUp,
 }
 

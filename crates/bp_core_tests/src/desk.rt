@@ -1,3 +1,4 @@
+//! A book with what a test asks of it.
 ghost use Rattle.std.specs.Prelude.{◌≡◌, ◌<◌, false, length, map, IfOk, IsTrue};
 ghost use Rattle.std.specs.List.{range_with_len};
 ghost use Rattle.std.specs.Arc.{arc_value};
@@ -39,6 +40,7 @@ impl Model for Desk {
     ghost view = { λ d. d.book };
 }
 
+/// The house of these rooms, sold rooms, stays and limits.
 fn house(
     alloc: Global,
     rooms: &[u64],
@@ -139,6 +141,7 @@ impl Desk {
         &self.book
     }
 
+    /// What the book answers to a call.
     fn act(&mut self, caller: u32, call: Call) -> Answer
         requires { MayCall self.old caller call }
         ensures { Continues self.old self.new }
@@ -177,6 +180,7 @@ impl Desk {
         }
     }
 
+    /// The units left on a night.
     fn units_left(&self, night: u32) -> Result<u64, Fail>
         requires { night < length self.now.house.rooms }
         ensures { IfOk result (λ u. u ≡ units_left_at self.now.house self.now.history night) }
@@ -188,6 +192,7 @@ impl Desk {
         }
     }
 
+    /// The units left on each night.
     fn all_units_left(&self, alloc: Global) -> Result<Vec<u64>, Fail>
         ensures { IfOk result (λ v. v.items ≡
             map (units_left_at self.now.house self.now.history) (range_with_len 0 (length self.now.house.rooms))) }
@@ -199,6 +204,7 @@ impl Desk {
         Ok(left)
     }
 
+    /// A stay with its rate and its forecast as they are now.
     fn stay_now(&self, stay: u32) -> Stay
         requires { stay < length self.now.house.stays }
         ensures { result ≡ stay_now self.now.house self.now.history stay }
@@ -210,6 +216,7 @@ impl Desk {
         }
     }
 
+    /// Each stay with its rate and its forecast as they are now.
     fn stays_now(&self, alloc: Global) -> Result<Vec<Stay>, Fail>
         ensures { IfOk result (λ v. v.items ≡
             map (stay_now self.now.house self.now.history) (range_with_len 0 (length self.now.house.stays))) }

@@ -10,4 +10,6 @@ mod hundred;
 #[cfg(test)]
 mod made;
 #[cfg(test)]
+mod rows;
+#[cfg(test)]
 mod tests;

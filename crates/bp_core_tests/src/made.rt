@@ -1,5 +1,4 @@
 //! A list of calls that is made at once.
-
 ghost use Rattle.std.specs.Prelude.{◌≡◌, None};
 
 use bp_board::Board;

@@ -1,57 +1,31 @@
+//! The worked cases of a book, each with its replies worked out by hand.
 use crate::desk::{Claimed, Desk, Row};
 use crate::hotel::{
     AFTER_ONE, LIMITS, N0, N01, N1, N2, N12, OPENING, ROOMS, STAYS, WITHOUT_ONE_EACH, three_nights,
 };
-use bp_core::Act::{Do, Enrol, Leave};
-use bp_core::Answer;
-use bp_core::Answer::{Behind, Logged, PublicationsFull, Stale, Superseded};
-use bp_core::Reply::{
-    Accepted, AlreadyCancelled, BelowSold, Cancelled, Done, GroupAccepted, GroupNoRoom,
-    GroupTooLow, NoRoom, NotBooked, TooLow, Vector,
+use crate::rows::{
+    ALREADY_CANCELLED, CANCELLED, DONE, ENROL, LEAVE, NOT_BOOKED, accepted, behind, below_sold,
+    book, cancel, group, group_no_room, no_room, reforecast, reprice, resize, superseded, too_low,
+    vector,
 };
-use bp_types::Command::{Book, Cancel, Group, Reforecast, Reprice, Resize};
+use bp_core::Answer;
+use bp_core::Answer::{Logged, PublicationsFull, Stale};
+use bp_core::Reply::{GroupAccepted, GroupTooLow};
 use bp_types::{Change, Limits, Stay};
 use std::alloc::Global;
 use std::process::Abort;
 use std::test::Fail;
 
+/// A rate that is just the price, a full night, and a Book that is behind.
 const A_TIE: [Row; 4] = [
-    (1, Enrol, Logged(Done)),
-    (
-        1,
-        Do(Book { stay: 0 }),
-        Logged(Accepted {
-            vector: 0,
-            sum: 100,
-        }),
-    ),
-    (
-        1,
-        Do(Book { stay: 1 }),
-        Logged(NoRoom {
-            vector: 0,
-            sum: 140,
-            night: 1,
-        }),
-    ),
-    (
-        1,
-        Do(Book { stay: 3 }),
-        Behind {
-            position: 0,
-            changes: 2,
-        },
-    ),
+    (1, ENROL, DONE),
+    (1, book!(0), accepted!(vector 0, sum 100)),
+    (1, book!(1), no_room!(vector 0, sum 140, night 1)),
+    (1, book!(3), behind!(position 0, changes 2)),
 ];
 
-const NO_LONGER_BEHIND: [Row; 2] = [
-    (
-        1,
-        Do(Book { stay: 3 }),
-        Logged(Accepted { vector: 1, sum: 40 }),
-    ),
-    (1, Leave, Logged(Done)),
-];
+/// What follows after a new vector.
+const NO_LONGER_BEHIND: [Row; 2] = [(1, book!(3), accepted!(vector 1, sum 40)), (1, LEAVE, DONE)];
 
 #[test]
 fn a_tie_is_accepted_and_a_booking_waits_for_a_vector(rt: HostRuntime) -> Result<(), Fail> {
@@ -66,69 +40,44 @@ fn a_tie_is_accepted_and_a_booking_waits_for_a_vector(rt: HostRuntime) -> Result
     desk.run(&rt, &A_TIE);
     assert_eq!(rt; desk.book().length(), 4);
     let next = desk.publish(alloc, 1, (140, &[0, 0, 1, 2], &[60, 40, 40]), 2)?;
-    assert_eq!(rt; next, Some(Logged(Vector { number: 1 })));
+    assert_eq!(rt; next, Some(vector!(1)));
     desk.run(&rt, &NO_LONGER_BEHIND);
     let last = desk.publish(alloc, 0, (100, &[0, 0, 1, 1], &[60, 40, 40]), 1)?;
-    assert_eq!(rt; last, Some(Logged(Vector { number: 2 })));
+    assert_eq!(rt; last, Some(vector!(2)));
     assert_eq!(rt; desk.book().left(1), 1);
     Ok(())
 }
 
+/// A booking that is given up twice, and one that there is not.
 const TWICE: [Row; 6] = [
-    (1, Enrol, Logged(Done)),
-    (
-        1,
-        Do(Book { stay: 0 }),
-        Logged(Accepted {
-            vector: 0,
-            sum: 100,
-        }),
-    ),
-    (1, Do(Cancel { nth: 1 }), Logged(Cancelled)),
-    (1, Do(Cancel { nth: 1 }), Logged(AlreadyCancelled)),
-    (1, Do(Cancel { nth: 2 }), Logged(NotBooked)),
-    (1, Leave, Logged(Done)),
+    (1, ENROL, DONE),
+    (1, book!(0), accepted!(vector 0, sum 100)),
+    (1, cancel!(1), CANCELLED),
+    (1, cancel!(1), ALREADY_CANCELLED),
+    (1, cancel!(2), NOT_BOOKED),
+    (1, LEAVE, DONE),
 ];
 
+/// A booking before and after its stay has a lower rate.
 const REPRICED: [Row; 5] = [
-    (1, Enrol, Logged(Done)),
-    (
-        1,
-        Do(Book { stay: 0 }),
-        Logged(Accepted {
-            vector: 0,
-            sum: 100,
-        }),
-    ),
-    (1, Do(Reprice { stay: 0, rate: 99 }), Logged(Done)),
-    (
-        1,
-        Do(Book { stay: 0 }),
-        Logged(TooLow {
-            vector: 0,
-            sum: 100,
-            rate: 99,
-        }),
-    ),
-    (1, Leave, Logged(Done)),
+    (1, ENROL, DONE),
+    (1, book!(0), accepted!(vector 0, sum 100)),
+    (1, reprice!(0, rate 99), DONE),
+    (1, book!(0), too_low!(vector 0, sum 100, rate 99)),
+    (1, LEAVE, DONE),
 ];
 
+/// Fewer rooms than are sold.
 const BELOW: [Row; 3] = [
-    (1, Enrol, Logged(Done)),
-    (
-        1,
-        Do(Resize { night: 1, rooms: 0 }),
-        Logged(BelowSold { sold: 1 }),
-    ),
-    (1, Leave, Logged(Done)),
+    (1, ENROL, DONE),
+    (1, resize!(1, rooms 0), below_sold!(1)),
+    (1, LEAVE, DONE),
 ];
 
-const NOTHING_CHANGED: Answer = Superseded {
-    position: 0,
-    changes: 0,
-};
+/// No change stands after the opening.
+const NOTHING_CHANGED: Answer = superseded!(position 0, changes 0);
 
-// Rooms sold at the opening and its vector, the calls, and what caller 0 is answered who publishes after them.
+/// Rooms sold at the opening and its vector, the calls, and what caller 0 is answered who publishes after them.
 type Case = (
     &'static [u64],
     Claimed<'static>,
@@ -137,26 +86,15 @@ type Case = (
     Answer,
 );
 
+/// These calls, and the vector that follows each.
 const CASES: [(&str, Case); 3] = [
     (
         "cancelled twice",
-        (
-            &[0, 0, 0],
-            OPENING,
-            &TWICE,
-            OPENING,
-            Logged(Vector { number: 1 }),
-        ),
+        (&[0, 0, 0], OPENING, &TWICE, OPENING, vector!(1)),
     ),
     (
         "a rate changed between two bookings",
-        (
-            &[0, 0, 0],
-            OPENING,
-            &REPRICED,
-            AFTER_ONE,
-            Logged(Vector { number: 1 }),
-        ),
+        (&[0, 0, 0], OPENING, &REPRICED, AFTER_ONE, vector!(1)),
     ),
     (
         "fewer rooms than sold",
@@ -177,8 +115,8 @@ fn worked_case(rt: &impl Abort, alloc: Global, name: &str, case: &Case) -> Resul
     desk.run(rt, rows);
     let got = desk.publish(alloc, 0, closing, 1)?;
     assert_eq!(rt; got, Some(want), "{name}");
-    assert_eq!(rt; desk.ask(1, Enrol), None, "{name}");
-    assert_eq!(rt; desk.ask(1, Leave), None, "{name}");
+    assert_eq!(rt; desk.ask(1, ENROL), None, "{name}");
+    assert_eq!(rt; desk.ask(1, LEAVE), None, "{name}");
     Ok(())
 }
 
@@ -190,19 +128,13 @@ fn worked_cases_up_to_their_last_vector(rt: HostRuntime) -> Result<(), Fail> {
     Ok(())
 }
 
+/// A group on a full night, for which no quote is needed.
 const FULL_NIGHT: [Row; 2] = [
-    (
-        1,
-        Do(Group {
-            span: N1,
-            rooms: 1,
-            amount: 0,
-        }),
-        Logged(GroupNoRoom { night: 1 }),
-    ),
-    (1, Leave, Logged(Done)),
+    (1, group!(N1, rooms 1, amount 0), group_no_room!(1)),
+    (1, LEAVE, DONE),
 ];
 
+/// The four stays in hundredths, with halves among their forecasts.
 const HALVES: [Stay; 4] = [
     Stay {
         span: N01,
@@ -226,11 +158,13 @@ const HALVES: [Stay; 4] = [
     },
 ];
 
+/// The best that they bring with nothing sold.
 const IN_HALVES: Claimed<'static> = (24_500, &[50, 50, 100, 150], &[0, 100, 40]);
 
+/// The best with one room fewer on each of the last two nights.
 const HALVES_WITHOUT: Claimed<'static> = (10_000, &[0, 0, 100, 100], &[0, 110, 40]);
 
-// The unit, the stays, the certificates with and without one room on nights 1 and 2, and what such a room displaces.
+/// The unit, the stays, the certificates with and without one room on nights 1 and 2, and what such a room displaces.
 type Units = (
     u64,
     &'static [Stay],
@@ -240,6 +174,7 @@ type Units = (
     u128,
 );
 
+/// In whole rooms, and in hundredths.
 const UNITS: [Units; 2] = [
     (1, &STAYS, OPENING, WITHOUT_ONE_EACH, 150, 150),
     (100, &HALVES, IN_HALVES, HALVES_WITHOUT, 145, 14_500),
@@ -250,7 +185,7 @@ fn three_groups(rt: &impl Abort, alloc: Global, units: &Units) -> Result<(), Fai
     let (unit, stays, with, without, amount, displacement) = *units;
     let limits = Limits { unit, ..LIMITS };
     let mut desk = Desk::open(alloc, &ROOMS, &[0, 0, 0], stays, limits, with)?;
-    desk.run(rt, &[(1, Enrol, Logged(Done))]);
+    desk.run(rt, &[(1, ENROL, DONE)]);
     let quote = desk.quote(alloc, N12, 1, with, without)?;
     let low = desk.group(1, N12, 1, amount.saturating_sub(1), quote);
     assert_eq!(rt; low, Some(Logged(GroupTooLow { displacement })), "{unit}");
@@ -259,7 +194,7 @@ fn three_groups(rt: &impl Abort, alloc: Global, units: &Units) -> Result<(), Fai
     assert_eq!(rt; tie, Some(Logged(GroupAccepted { displacement })), "{unit}");
     desk.run(rt, &FULL_NIGHT);
     let last = desk.publish(alloc, 0, without, 1)?;
-    assert_eq!(rt; last, Some(Logged(Vector { number: 1 })), "{unit}");
+    assert_eq!(rt; last, Some(vector!(1)), "{unit}");
     Ok(())
 }
 
@@ -276,14 +211,7 @@ fn a_quote_is_stale_after_one_booking(rt: HostRuntime) -> Result<(), Fail> {
     let alloc = rt.alloc();
     let mut desk = three_nights(alloc, LIMITS)?;
     let quote = desk.quote(alloc, N12, 1, OPENING, WITHOUT_ONE_EACH)?;
-    desk.run(
-        &rt,
-        &[(
-            0,
-            Do(Book { stay: 2 }),
-            Logged(Accepted { vector: 0, sum: 0 }),
-        )],
-    );
+    desk.run(&rt, &[(0, book!(2), accepted!(vector 0, sum 0))]);
     assert_eq!(rt;
         desk.group(0, N12, 1, 150, quote),
         Some(Stale { changes: 1 })
@@ -292,36 +220,20 @@ fn a_quote_is_stale_after_one_booking(rt: HostRuntime) -> Result<(), Fail> {
     Ok(())
 }
 
+/// The calls up to position 4.
 const TO_FOUR: [Row; 3] = [
-    (1, Enrol, Logged(Done)),
-    (
-        1,
-        Do(Book { stay: 0 }),
-        Logged(Accepted {
-            vector: 0,
-            sum: 100,
-        }),
-    ),
-    (1, Do(Cancel { nth: 1 }), Logged(Cancelled)),
+    (1, ENROL, DONE),
+    (1, book!(0), accepted!(vector 0, sum 100)),
+    (1, cancel!(1), CANCELLED),
 ];
 
+/// Those from there to position 9.
 const TO_NINE: [Row; 5] = [
-    (1, Do(Cancel { nth: 1 }), Logged(AlreadyCancelled)),
-    (1, Do(Cancel { nth: 2 }), Logged(NotBooked)),
-    (
-        1,
-        Do(Book { stay: 1 }),
-        Logged(Accepted {
-            vector: 0,
-            sum: 140,
-        }),
-    ),
-    (1, Do(Cancel { nth: 2 }), Logged(Cancelled)),
-    (
-        1,
-        Do(Book { stay: 3 }),
-        Logged(Accepted { vector: 0, sum: 40 }),
-    ),
+    (1, cancel!(1), ALREADY_CANCELLED),
+    (1, cancel!(2), NOT_BOOKED),
+    (1, book!(1), accepted!(vector 0, sum 140)),
+    (1, cancel!(2), CANCELLED),
+    (1, book!(3), accepted!(vector 0, sum 40)),
 ];
 
 #[test]
@@ -332,31 +244,23 @@ fn an_older_board_is_superseded(rt: HostRuntime) -> Result<(), Fail> {
     let older = desk.board(alloc, OPENING)?;
     desk.run(&rt, &TO_NINE);
     let newer = desk.publish(alloc, 1, (200, &[1, 0, 1, 1], &[0, 100, 40]), 5)?;
-    assert_eq!(rt; newer, Some(Logged(Vector { number: 1 })));
+    assert_eq!(rt; newer, Some(vector!(1)));
     assert_eq!(rt;
         desk.post(1, older, 1),
-        Some(Superseded {
-            position: 9,
-            changes: 0
-        })
+        Some(superseded!(position 9, changes 0))
     );
     assert_eq!(rt; desk.book().vectors(), 2);
     Ok(())
 }
 
+/// A caller with one booking.
 const BOOKED_ONCE: [Row; 2] = [
-    (1, Enrol, Logged(Done)),
-    (
-        1,
-        Do(Book { stay: 0 }),
-        Logged(Accepted {
-            vector: 0,
-            sum: 100,
-        }),
-    ),
+    (1, ENROL, DONE),
+    (1, book!(0), accepted!(vector 0, sum 100)),
 ];
 
-const SAME_FORECAST: [Row; 1] = [(1, Do(Reforecast { stay: 3, count: 5 }), Logged(Done))];
+/// A change that leaves the forecast as it was.
+const SAME_FORECAST: [Row; 1] = [(1, reforecast!(3, count 5), DONE)];
 
 #[test]
 fn publications_are_full_where_a_vector_would_be_newer(rt: HostRuntime) -> Result<(), Fail> {
@@ -370,15 +274,9 @@ fn publications_are_full_where_a_vector_would_be_newer(rt: HostRuntime) -> Resul
     )?;
     desk.run(&rt, &BOOKED_ONCE);
     let last = desk.publish(alloc, 1, AFTER_ONE, 1)?;
-    assert_eq!(rt; last, Some(Logged(Vector { number: 1 })));
+    assert_eq!(rt; last, Some(vector!(1)));
     let again = desk.publish(alloc, 1, AFTER_ONE, 1)?;
-    assert_eq!(rt;
-        again,
-        Some(Superseded {
-            position: 3,
-            changes: 0
-        })
-    );
+    assert_eq!(rt; again, Some(superseded!(position 3, changes 0)));
     desk.run(&rt, &SAME_FORECAST);
     let third = desk.publish(alloc, 1, AFTER_ONE, 1)?;
     assert_eq!(rt; third, Some(PublicationsFull));
@@ -422,12 +320,12 @@ fn a_book_tells_of_itself(rt: HostRuntime) -> Result<(), Fail> {
 #[test]
 fn there_are_63_callers_and_each_enrols_once(rt: HostRuntime) -> Result<(), Fail> {
     let mut desk = three_nights(rt.alloc(), LIMITS)?;
-    assert_eq!(rt; desk.ask(0, Enrol), None);
+    assert_eq!(rt; desk.ask(0, ENROL), None);
     for caller in 1..64 {
-        assert_eq!(rt; desk.ask(caller, Enrol), Some(Logged(Done)), "{caller}");
+        assert_eq!(rt; desk.ask(caller, ENROL), Some(DONE), "{caller}");
     }
     for caller in 0..65 {
-        assert_eq!(rt; desk.ask(caller, Enrol), None, "{caller}");
+        assert_eq!(rt; desk.ask(caller, ENROL), None, "{caller}");
     }
     assert_eq!(rt; desk.book().length(), 64);
     Ok(())

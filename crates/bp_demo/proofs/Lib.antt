@@ -1,3 +1,5 @@
+-- Lemmas on demos.
+
 -- bookings on a short history: none is refused, and the counts grow by the reply
 pub mod BookingLemmas
 -- what is left on a night is small

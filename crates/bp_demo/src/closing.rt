@@ -29,6 +29,7 @@ fn stay_now(book: &Book, stay: u32) -> Stay
     }
 }
 
+/// The units left on each night.
 fn rooms_left(alloc: Global, book: &Book) -> Result<Vec<u64>, Memory>
     ensures { IfOk result (λ v. v.items ≡
         map (units_left_at book.now.house book.now.history) (range_with_len 0 (length book.now.house.rooms))) }
@@ -40,6 +41,7 @@ fn rooms_left(alloc: Global, book: &Book) -> Result<Vec<u64>, Memory>
     Ok(left)
 }
 
+/// Each stay with its rate and its forecast as they are now.
 fn stays_now(alloc: Global, book: &Book) -> Result<Vec<Stay>, Memory>
     ensures { IfOk result (λ v. v.items ≡
         map (stay_now book.now.house book.now.history) (range_with_len 0 (length book.now.house.stays))) }

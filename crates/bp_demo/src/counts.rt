@@ -7,6 +7,7 @@ use bp_core::Reply;
 /// How many bookings were answered in each way.
 #[derive(Clone, Copy, Debug, PartialEq, Eq)]
 pub struct Counts {
+    /// The stay was booked.
     pub accepted: u64,
     /// The rate was below the prices.
     pub too_low: u64,
@@ -15,6 +16,7 @@ pub struct Counts {
 }
 
 impl Counts {
+    /// No booking answered.
     pub(crate) fn none() -> Counts
         ensures { result ≡ no_counts }
     {

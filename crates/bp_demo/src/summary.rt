@@ -29,11 +29,12 @@ pub struct Summary {
     pub prices: u64,
     /// How the bookings were answered.
     pub counts: Counts,
-    /// The optimum of what is left behind the last booking.
+    /// The optimum of what is left behind the last booking, in minor units of money times the unit.
     pub closing: u128,
 }
 
-/// Opens a desk on a house with its least prices, books each stay once, and sums up.
+/// Opens a desk on a house with its least prices, books each stay once, and sums up. The house is solved from nothing
+/// twice: as it opens, and behind the last booking. The one error is `Memory`.
 pub fn sum_up(alloc: Global, house: House) -> Result<Summary, Memory>
     requires fresh { length house.stays + 1 < house.limits.stale_after }
     requires room { length house.stays + 1 < house.limits.entries }

@@ -2,6 +2,7 @@
 use crate::demo;
 use std::test::Fail;
 
+/// One night, one room and one stay.
 const ONE_STAY: &[u8] = b"demo 0 1 1 1
 value 5073
 prices 5073

@@ -37,7 +37,8 @@ impl DemoText {
     }
 }
 
-/// Makes a hotel of a seed, so many nights of so many rooms, and so many stays, and books each stay on it once.
+/// Makes a hotel of a seed, so many nights of so many rooms, and so many stays, and books each stay on it once. Its
+/// text is the same at each call with the same numbers. The one error is `Memory`.
 pub fn demo(
     alloc: Global,
     seed: u64,
@@ -58,6 +59,7 @@ pub fn demo(
     Ok(text_of(alloc, seed, nights, rooms, stays, &summary)?)
 }
 
+/// The lines of a demo: the four numbers, and what its bookings come to.
 fn text_of(
     alloc: Global,
     seed: u64,

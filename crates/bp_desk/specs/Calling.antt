@@ -27,8 +27,9 @@ pub record MayMake (house : Inn) (seen : History) (caller : ℕ) (call : Call) :
 abbrev pub after_turn : PassState → History → History → PassState
 after_turn p found seen = record p { seen = seen; calls = calls seen p.caller; turns = p.turns ++ length found ∷ [] }
 
--- a call was made at its turn. The history that it found begins with all that the caller had seen, and has of the caller just its own calls.
--- The answer is the book's for that history, and what the caller has seen afterwards is what the book leaves.
+-- a call was made at its turn. The history that it found begins with all that the caller had seen, and has of the
+-- caller just its own calls. The answer is the book's for that history, and what the caller has seen afterwards is what
+-- the book leaves.
 pub record IsCalled (old new : PassState) (call : Call) (answer : Answer) : Type 0 where
   pub found : History
   pub begins : IsPrefix old.seen found
@@ -44,7 +45,8 @@ pub record HasRead (old new : PassState) : Type 0 where
   pub own : calls new.seen old.caller ≡ old.calls
   pub legal : IsLegal old.house new.seen
 
--- At a turn a seat found what is in the book: it begins with all that was seen before, of which nothing since is the seat's own.
+-- At a turn a seat found what is in the book: it begins with all that was seen before, of which nothing since is the
+-- seat's own.
 pub record HasTurn (old new : SeatState Inn Line) (book : Diary) : Type 0 where
   pub fixed : old.fixed ≡ Some book.house
   pub begins : IsPrefix old.seen book.history

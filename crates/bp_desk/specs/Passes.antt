@@ -11,9 +11,8 @@ use Rattle.bp_core.specs.Callers.{may_act, has_left}
 use Rattle.bp_core.specs.Legal.{IsLegal}
 use Rattle.bp_desk.specs.Newest.{Vector, IsNewest}
 
--- What a pass is, has seen and has done.
--- `desk` is the desk that gave it, `house` the house of that desk, `caller` the number that it calls under. It has seen
--- the first entries of the history, `seen`, in which `calls` are its own.
+-- What a pass is, has seen and has done. `desk` is the desk that gave it, `house` the house of that desk, `caller` the
+-- number that it calls under. It has seen the first entries of the history, `seen`, in which `calls` are its own.
 -- `free` are the numbers that it may still hand out, `ended` the callers that were joined into it, each with its calls;
 -- `turns` and `looks` are the lengths that its turns and looks found.
 pub record PassState : Type 0 where
@@ -63,7 +62,8 @@ pub record IsIdle (s : SeatState Inn Line) : Type 0 where
   pub house : s.fixed ≡ Some (house_of s)
   pub legal : IsLegal (house_of s) s.seen
 
--- a pass: its seat may call under this number, and hand out the numbers from the next one on, and it keeps the newest vector that it has seen
+-- a pass: its seat may call under this number, and hand out the numbers from the next one on, and it keeps the newest
+-- vector that it has seen
 pub record IsPass (s : SeatState Inn Line) (caller next : ℕ) (newest : Vector) : Type 0 where
   pub idle : IsIdle s
   pub number : s.number ≡ caller

@@ -21,7 +21,8 @@ use Rattle.bp_desk.specs.declared.submitting.SubmitError.TheVariants.{Position, 
 use Rattle.bp_desk.specs.Passes.{PassState}
 use Rattle.bp_desk.specs.Calling.{HasRead, IsCalled, AddsCall}
 
--- some turns that only read, or none: each found no more than the pass has seen afterwards, of which nothing since is its own
+-- some turns that only read, or none: each found no more than the pass has seen afterwards, of which nothing since is
+-- its own
 pub record HasReadOn (old new : PassState) : Type 0 where
   pub more : List ℕ
   pub begins : IsPrefix old.seen new.seen

@@ -1,3 +1,4 @@
+//! The calls at a shared desk by their names: commands, and the publication of a board.
 ghost use Rattle.std.specs.Prelude.{◌≡◌, None, IsTrue};
 ghost use Rattle.bp_types.specs.declared.command.Command.TheVariants.{Book, Cancel, Reforecast, Reprice, Resize, Group};
 ghost use Rattle.bp_core.specs.declared.call.Call.TheVariants.{Do, Publish};
@@ -25,9 +26,10 @@ use bp_core::{Answer, Reply};
 use bp_types::{Command, Quoted, Span};
 use std::sync::{Arc, Wait};
 
-/// The calls by their names, each with the answers that it can get.
+/// The calls by their names, each with the answers that it can get. Each waits for a turn of its own, and takes no
+/// memory. An error says why a call made no entry; a reply makes one.
 impl Desk {
-    /// Books a room for a stay, judged by the last vector and the rooms left at this call's turn.
+    /// Books a room for a stay, judged by bid-price control at this call's turn: by the last vector and the rooms left.
     pub fn book<R: Wait>(&self, rt: &R, pass: &mut Pass, stay: u32) -> Result<BookReply, BookStop>
         requires desk { pass.old.desk ≡ self.now }
         requires range { IsTrue (is_in_range pass.old.house (DoAct (Book stay))) }
@@ -50,7 +52,7 @@ impl Desk {
         }
     }
 
-    /// Gives up the caller's own booking, counted from 1 over its booking calls, accepted or not.
+    /// Gives up the caller's own nth booking, counted from 1 over its booking calls, accepted or not.
     pub fn cancel<R: Wait>(
         &self,
         rt: &R,
@@ -111,7 +113,7 @@ impl Desk {
         }
     }
 
-    /// Sets the rooms of a night, in whole rooms.
+    /// Sets the rooms of a night, in whole rooms, unless more of them are sold.
     pub fn resize<R: Wait>(
         &self,
         rt: &R,
@@ -132,8 +134,8 @@ impl Desk {
         }
     }
 
-    /// Books so many rooms on each night of a span for one amount, in minor units of money. The quote has to be
-    /// right at its position.
+    /// Books so many rooms on each night of a span for one amount, in minor units of money. A group that there are
+    /// rooms for needs a quote, which has to be right at its position.
     pub fn group<R: Wait>(
         &self,
         rt: &R,
@@ -157,8 +159,8 @@ impl Desk {
         group_of(self.command(rt, pass, command, quoted))
     }
 
-    /// Publishes a board, and answers the number of its vector. From the last vector's position to the board's own
-    /// at least so many changes must stand.
+    /// Publishes a board, and answers the number of its vector. From the last vector's position to the board's own at
+    /// least so many changes must stand.
     pub fn publish<R: Wait>(
         &self,
         rt: &R,

@@ -1,3 +1,4 @@
+//! An instance that is carried along the history of a shared desk, up to a position that a pass has seen.
 ghost use Rattle.std.specs.Prelude.{◌≡◌, ◌<◌, ◌≤◌, length, IfOk};
 ghost use Rattle.bp_types.specs.House.{opening};
 ghost use Rattle.bp_types.specs.Changes.{changed_by_all, FitInTurn};
@@ -13,7 +14,7 @@ use std::sync::Wait;
 /// How many changes are read at one turn: each entry makes two at most.
 const BATCH: usize = 256;
 
-/// The instance of a house, carried along its history up to a position.
+/// The instance of a house, carried along its history up to a position, and room for the changes of one turn.
 #[derive(Drop)]
 pub(crate) struct Carried {
     pub(crate) instance: Instance,
@@ -22,7 +23,7 @@ pub(crate) struct Carried {
 }
 
 impl Carried {
-    /// A copy of the instance at position 0, with room for the changes to come.
+    /// A copy of the instance at position 0, with room for the changes to come. The one error is `Memory`.
     pub(crate) fn of(alloc: Global, pass: &Pass, start: &Instance) -> Result<Carried, Memory>
         requires { start.now ≡ opening pass.now.house }
         ensures { IfOk result (λ c. IsCarried pass.now.house pass.now.seen c × (c.position ≡ 0)) }

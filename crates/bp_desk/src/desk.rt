@@ -1,3 +1,4 @@
+//! The desk that callers share: its opening and its end, the passes to it, and a call at a turn of its own.
 ghost use Rattle.std.specs.Prelude.{◌≡◌, ◌≢◌, ◌≤◌, ◌↔◌, ℕ, List, ◌∷◌, [], false, Err, IfOk, OnErr, IsOk, IsTrue};
 ghost use Rattle.std.specs.Arc.{arc_value};
 ghost use Rattle.bp_types.specs.Claim.{IsCertificateOf};
@@ -30,6 +31,8 @@ use std::marker::Model;
 use std::sync::{Arc, Wait};
 
 /// A desk that many callers share. Contracts see which desk it is, and passes name it by that.
+///
+/// The book stands under a ticket lock: turns are had in the order of their tickets.
 #[derive(Drop)]
 pub struct Desk {
     pub(crate) turn: Turn<Shared>,
@@ -50,12 +53,13 @@ impl Model for Desk {
 pub enum EnrolError {
     /// All numbers below `CALLERS` were handed out.
     CallersFull,
+    /// There was no memory for the pass.
     Memory,
 }
 
 impl Desk {
-    /// Opens the desk of a house with a vector for position 0, and gives the opener's pass. All room of the
-    /// book is taken here.
+    /// Opens the desk of a house with a vector for position 0, and gives the opener's pass. All room of the book is
+    /// taken here; the one error is `Memory`.
     pub fn new(alloc: Global, house: House, board: Arc<Board>) -> Result<(Desk, Pass), Memory>
         requires position { (arc_value board).position ≡ 0 }
         requires certificate { IsCertificateOf (opening house) (arc_value board).certificate }
@@ -98,8 +102,8 @@ impl Desk {
         self.make(rt, &mut pass.seat, &mut pass.newest, caller, call)
     }
 
-    /// Publishes a board, and answers what the book answers at this call's turn. From the last vector's position
-    /// to the board's own at least so many changes must stand.
+    /// Publishes a board, and answers what the book answers at this call's turn. From the last vector's position to the
+    /// board's own at least so many changes must stand.
     pub(crate) fn post<R: Wait>(
         &self,
         rt: &R,
@@ -116,7 +120,8 @@ impl Desk {
         self.make(rt, &mut pass.seat, &mut pass.newest, pass.caller, call)
     }
 
-    /// A pass for a new caller, with the next number, of which this is the first entry.
+    /// A pass for a new caller, with the next number, of which this is the first entry. Only the opener's pass hands
+    /// numbers out. After an error nothing was logged, and no number is gone.
     pub fn enrol<R: Wait>(&self, rt: &R, alloc: Global, pass: &mut Pass) -> Result<Pass, EnrolError>
         requires desk { pass.old.desk ≡ self.now }
         requires opener { pass.old.caller ≡ 0 }
@@ -196,8 +201,8 @@ impl Desk {
         pass.newest.hear(&newest);
     }
 
-    /// Both passes have then seen the longer of the two histories that they had seen. It does not wait, and the
-    /// answer is never `Memory`.
+    /// Both passes have then seen the longer of the two histories that they had seen. It does not wait, and the answer
+    /// is never `Memory`.
     pub fn meet(&self, alloc: Global, pass: &mut Pass, other: &mut Pass) -> Result<(), Memory>
         requires desk { (pass.old.desk ≡ self.now) × (other.old.desk ≡ self.now) }
         ensures ok { IsOk result }
@@ -218,7 +223,7 @@ impl Desk {
         Ok(())
     }
 
-    /// Ends the desk, and gives its book.
+    /// Ends the desk at a last turn of the opener's, and gives its book.
     pub fn close<R: Wait>(self, rt: &R, pass: Pass) -> Book
         requires desk { pass.desk ≡ self }
         requires opener { pass.caller ≡ 0 }
@@ -240,7 +245,8 @@ impl Desk {
         book
     }
 
-    /// Makes a call at a turn of its own.
+    /// Makes a call at a turn of its own. Where the last vector is another one afterwards than the pass knew, its
+    /// prices are copied, in time that grows with the nights.
     fn make<R: Wait>(
         &self,
         rt: &R,

@@ -1,7 +1,7 @@
 //! The shared desk: a book under a ticket lock, at which any number of threads call, each through a pass of its own.
 //!
-//! Every answer is that of the one history of the desk, at the place of the call in it. Nights, stays and
-//! places are numbered from 0, rooms are whole rooms, and money is in minor units.
+//! Every answer is that of the one history of the desk, at the place of the call in it. Nights, stays and places are
+//! numbered from 0, rooms are whole rooms, and money is in minor units.
 //!
 //! Two callers at one desk, from its opening to its closed book; `docs/desk.md` shows the whole program.
 //!

@@ -1,3 +1,4 @@
+//! The newest vector that a pass has seen, with its prices as sums.
 ghost use Rattle.std.specs.Prelude.{◌≡◌, ◌≢◌, ◌+◌, ◌-◌, ◌<◌, ◌≤◌, length, slice_index, IfOk};
 ghost use Rattle.bp_types.specs.Prices.{SumUp};
 ghost use Rattle.bp_core.specs.Lines.{last_number};

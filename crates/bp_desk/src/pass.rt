@@ -1,3 +1,4 @@
+//! Passes: the right to call at one desk under one number, and what is left of it after the caller's last entry.
 ghost use Rattle.std.specs.Prelude.{◌≡◌, ◌≤◌, length, All, IsTrue};
 ghost use Rattle.bp_types.specs.Program.{price};
 ghost use Rattle.bp_types.specs.Spans.{IsSpanWithin};
@@ -58,7 +59,7 @@ impl Pass {
     }
 
     /// The price of a span by the newest vector that the pass has seen, without a turn. It does not wait; the number
-    /// never falls.
+    /// never falls. A difference of two sums, it takes the same time for every span.
     pub fn quote(&self, span: Span) -> Quote
         requires { IsSpanWithin (length self.now.house.rooms) span }
         ensures number { result.number ≡ last_number self.now.seen }

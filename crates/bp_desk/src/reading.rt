@@ -1,3 +1,4 @@
+//! The calls at a shared desk that only read.
 ghost use Rattle.std.specs.Prelude.{◌≡◌, ◌+◌, ◌<◌, ◌≤◌, ◌++◌, ◌∷◌, [], length, vec_capacity, slice_get};
 ghost use Rattle.std.specs.Option.{option_map};
 ghost use Rattle.bp_types.specs.Changes.{Leads};
@@ -25,11 +26,11 @@ pub struct Lag {
     pub changes: u64,
 }
 
-/// Calls that only read. Each takes one turn, and answers for the history that it found there, which the pass has
-/// then seen.
+/// Calls that only read. Each takes one turn, and answers for the history that it found there, which the pass has then
+/// seen.
 impl Desk {
-    /// Fills in the changes of the entries from a position on, whole entries only and as many as fit, and answers
-    /// the position reached. Applied in turn to the instance at `from` they give the instance there.
+    /// Fills in the changes of the entries from a position on, whole entries only and as many as fit, and answers the
+    /// position reached. Applied in turn to the instance at `from` they give the instance there.
     pub fn changes<R: Wait>(
         &self,
         rt: &R,

@@ -1,4 +1,6 @@
-/// The reply to a booking. Vectors are numbered from 0, sums and rates are in minor units of money.
+//! The replies of the calls at a shared desk, and why a call made no entry.
+
+/// The reply to a booking. Vectors and nights are numbered from 0, sums and rates are in minor units of money.
 #[derive(Clone, Copy, Debug, PartialEq, Eq)]
 pub enum BookReply {
     /// The stay is booked: its rate is at least the sum of its prices in the vector.
@@ -14,11 +16,11 @@ pub enum BookReply {
 pub enum BookStop {
     /// As many commands as the limits allow are logged.
     HistoryFull,
-    /// So many changes stand after the last vector's position: a new vector has to come first.
+    /// So many changes stand after this position, the last vector's: a new vector has to come first.
     Behind { position: u64, changes: u64 },
 }
 
-/// The reply to a cancellation.
+/// The reply to a cancellation. Each of them makes an entry.
 #[derive(Clone, Copy, Debug, PartialEq, Eq)]
 pub enum CancelReply {
     /// The booking is given up.
@@ -33,11 +35,12 @@ pub enum CancelReply {
 #[derive(Clone, Copy, Debug, PartialEq, Eq)]
 pub struct HistoryFull;
 
-/// The reply to a change of a night's rooms.
+/// The reply to a change of a night's rooms, in whole rooms.
 #[derive(Clone, Copy, Debug, PartialEq, Eq)]
 pub enum ResizeReply {
+    /// The night has the rooms that were asked for.
     Done,
-    /// So many rooms of the night are sold, more than were asked for.
+    /// So many rooms of the night are sold, more than were asked for, and the rooms stay as they are.
     BelowSold { sold: u64 },
 }
 
@@ -46,7 +49,7 @@ pub enum ResizeReply {
 pub enum GroupReply {
     /// The group is booked.
     Accepted { displacement: u128 },
-    /// The amount is below this displacement.
+    /// The amount times the unit is below this displacement.
     TooLow { displacement: u128 },
     /// The first night of the span with fewer rooms left.
     NoRoom { night: u32 },
@@ -66,7 +69,7 @@ pub enum GroupStop {
 /// Why a board was not published.
 #[derive(Clone, Copy, Debug, PartialEq, Eq)]
 pub enum PublishStop {
-    /// So many changes stand from the last vector's position to the board's, fewer than were asked for.
+    /// So many changes stand from this position, the last vector's, to the board's, fewer than were asked for.
     Superseded { position: u64, changes: u64 },
     /// As many vectors as the limits allow are published.
     PublicationsFull,

@@ -1,3 +1,4 @@
+//! What the lock of a desk guards: the book, whose history only grows.
 use bp_core::{Book, Line};
 use bp_turn::Story;
 use bp_types::House;

@@ -1,3 +1,4 @@
+//! Certificates from outside: checked for the instance at their position, and then published.
 ghost use Rattle.std.specs.Prelude.{◌≡◌, ◌≤◌, length, MatchResult};
 ghost use Rattle.std.specs.Arc.{arc_value};
 ghost use Rattle.bp_types.specs.Claim.{IsCertificateOf};
@@ -20,6 +21,7 @@ use std::sync::{Arc, Wait};
 pub enum SubmitError {
     /// The history has this length, and the position is past it.
     Position { length: u64 },
+    /// There was no memory for the instance or the board.
     Memory,
     /// What the check of the certificate finds, for the instance at the position.
     NotOptimal { verdict: Verdict },
@@ -30,9 +32,12 @@ pub enum SubmitError {
 }
 
 impl Desk {
-    /// Publishes a certificate from outside for a position, and answers the number of its vector. It enters only
-    /// after the check has found it optimal for the instance at the position; its prices need not be the least
-    /// ones. `start` is the instance of the house. It takes a turn or more.
+    /// Publishes a certificate from outside for a position, and answers the number of its vector. It enters only after
+    /// the check has found it optimal for the instance at the position; its prices need not be the least ones. `start`
+    /// is the instance of the house. After an error nothing was logged.
+    ///
+    /// It takes a turn to find the length, one for each batch of changes up to the position, and one to publish. The
+    /// check, whose time grows with nights plus stays, is made between turns.
     pub fn submit<R: Wait>(
         &self,
         rt: &R,

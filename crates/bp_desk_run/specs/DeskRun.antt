@@ -1,6 +1,7 @@
 -- What the history of a run is: the theorem of a desk that ran, to be read before anything else here.
 --
--- Caller 0 is the opener. The sessions are the callers from 1 on, in the order of their commands, and the workers have the numbers after theirs.
+-- Caller 0 is the opener. The sessions are the callers from 1 on, in the order of their commands, and the workers have
+-- the numbers after theirs.
 use Rattle.std.specs.Prelude.{◌≡◌, ◌≢◌, ◌⊎◌, ℕ, ◌+◌, ◌/◌, ◌<◌, ◌≤◌, Bool, true, ◌==◌, if◌then◌else◌, List, [], ◌∷◌, ◌++◌, All, length, take, slice_index_or}
 use Rattle.bp_types.specs.declared.command.Command.{Command}
 use Rattle.bp_types.specs.House.{Inn}
@@ -67,7 +68,8 @@ LacksCommands scripts H = (i : ℕ) × (i < length scripts) × (commands_of H (i
 abbrev pub IsClosed : History → Type 0
 IsClosed H = changes_after H (last_position H) ≡ 0
 
--- the first cause of a cut: there are as many command entries as the house allows, and some session has not made all of its commands
+-- the first cause of a cut: there are as many command entries as the house allows, and some session has not made all of
+-- its commands
 abbrev pub NoEntryLeft : Inn → List (List Command) → History → Type 0
 NoEntryLeft house scripts H = (commands H ≡ house.limits.entries) × LacksCommands scripts H
 
@@ -77,7 +79,8 @@ abbrev pub NoVectorLeft : Inn → List (List Command) → History → Type 0
 NoVectorLeft house scripts H =
     (vectors H ≡ house.limits.publications) × (house.limits.stale_after ≤ changes_after H (last_position H)) × LacksCommands scripts H
 
--- the third: all commands are there, there are as many vectors as the house allows, and a change stands after the last one's position
+-- the third: all commands are there, there are as many vectors as the house allows, and a change stands after the last
+-- one's position
 abbrev pub NoClosingVectorLeft : Inn → List (List Command) → History → Type 0
 NoClosingVectorLeft house scripts H = IsComplete scripts H × (vectors H ≡ house.limits.publications) × (1 ≤ changes_after H (last_position H))
 

@@ -22,12 +22,17 @@ pub const MOST_ACTORS: usize = MOST_SESSIONS as usize + MOST_WORKERS as usize;
 /// A caller: its commands, its pass and optimiser until it runs, and its end. A worker has no command.
 #[derive(Drop)]
 pub struct Actor {
+    /// What a session asks, in its order.
     pub commands: Vec<Command>,
+    /// Its pass, from its enrolment until it runs.
     pub pass: Option<Pass>,
+    /// Its optimiser, from its enrolment until it runs.
     pub optimiser: Option<Optimiser>,
+    /// What is left of its pass, from its end until it is joined into the opener's.
     pub left: Option<Left>,
     /// How many of its commands it made.
     pub done: u64,
+    /// Why it made no more of them. A worker finishes, or stops for want of memory.
     pub stop: Stop,
 }
 

@@ -30,7 +30,8 @@ pub struct Ran {
     pub whole: bool,
 }
 
-/// Runs a house with the callers of its sessions and its workers. Caller 1 stands last in the slice.
+/// Runs a house with the callers of its sessions and its workers. Caller 1 stands last in the slice. The one error is
+/// `Memory`, of whichever caller.
 pub fn run_callers<R: Threads + Wait + Sync, G: Gate, L: Ledger>(
     rt: &R,
     alloc: Global,
@@ -73,7 +74,7 @@ pub fn run_callers<R: Threads + Wait + Sync, G: Gate, L: Ledger>(
     })
 }
 
-/// Both of two answers, as one step: `&&` would part every later goal in two.
+/// Whether both of two answers hold, as one value: what follows from it is said without a second case.
 fn both(a: bool, b: bool) -> bool
     ensures { result ≡ (a && b) }
 {

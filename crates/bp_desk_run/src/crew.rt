@@ -1,5 +1,4 @@
 //! Callers that share a desk, from their enrolment to their end. They stand in a slice, caller 1 last.
-
 ghost use Rattle.std.specs.Prelude.{◌≡◌, ◌+◌, ◌-◌, ◌<◌, ◌≤◌, ◌∷◌, ℕ, [], length, slice_index_or, Some, OnOk};
 ghost use Rattle.bp_types.specs.House.{opening};
 ghost use Rattle.bp_flow.specs.Settled.{IsSettled};
@@ -111,7 +110,7 @@ impl Actor {
     }
 }
 
-/// Gives each actor a pass of its own: the last place has number 1.
+/// Gives each actor a pass of its own: the last place has number 1. The one error is `Memory`.
 pub fn enrol_all<R: Wait>(
     rt: &R,
     alloc: Global,

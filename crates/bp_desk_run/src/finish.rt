@@ -1,5 +1,4 @@
 //! How a run ends: how its callers stopped, and the last round of the opener, after which the desk is closed.
-
 ghost use Rattle.std.specs.Prelude.{◌≡◌, ◌≢◌, ◌<◌, ℕ, true, false, length, slice_index_or, IfOk};
 ghost use Rattle.bp_types.specs.House.{opening};
 ghost use Rattle.bp_flow.specs.Settled.{IsSettled};
@@ -17,7 +16,8 @@ use std::alloc::Global;
 use std::sync::Wait;
 use std::sync::ledger::Ledger;
 
-/// Publishes once more where a change stands after the last vector's position, and closes the desk.
+/// Publishes once more where a change stands after the last vector's position, and closes the desk. It gives the book
+/// and what the last round did; the one error is `Memory`.
 pub fn close_desk<R: Wait, L: Ledger>(
     rt: &R,
     alloc: Global,

@@ -1,5 +1,4 @@
 //! Laws of desk runs, as the contracts of functions that do nothing.
-
 ghost use Rattle.bp_desk_run.specs.Laws.{CutIsNotWhole, VectorsAreFew};
 
 /// A run that was cut is not complete and closed.

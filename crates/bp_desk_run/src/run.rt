@@ -1,5 +1,4 @@
 //! From a house, scripts and a number of workers to the closed book.
-
 ghost use Rattle.std.specs.Prelude.{◌≡◌, ◌<◌, ◌≤◌, ◌+◌, ◌/◌, true, false, length, All, IfOk};
 ghost use Rattle.bp_types.specs.declared.limits.TheConstants.{MOST_SESSIONS, MOST_WORKERS};
 ghost use Rattle.bp_core.specs.Lines.{vectors};

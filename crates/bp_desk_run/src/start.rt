@@ -1,5 +1,4 @@
 //! How a run begins: the desk with its first vector, and an optimiser for each caller.
-
 ghost use Rattle.std.specs.Prelude.{◌≡◌, IfOk};
 ghost use Rattle.bp_types.specs.House.{opening};
 ghost use Rattle.bp_flow.specs.Settled.{IsSettled};
@@ -15,7 +14,7 @@ use bp_types::{House, Memory};
 use std::alloc::Global;
 use std::sync::Arc;
 
-/// Opens a desk with the least prices of its house as the first vector.
+/// Opens a desk with the least prices of its house as the first vector. The one error is `Memory`.
 pub fn open_desk(alloc: Global, house: House, solver: &Solver) -> Result<(Desk, Pass), Memory>
     requires solver { (solver.now.flow.program ≡ opening house) × IsSettled solver.now }
     ensures { IfOk result (λ r. (o : Line) × OpensWith house o × (r.1 ≡ opener r.0 house o)) }
@@ -29,7 +28,7 @@ pub fn open_desk(alloc: Global, house: House, solver: &Solver) -> Result<(Desk, 
     Desk::new(alloc, house, board)
 }
 
-/// An optimiser at the opening, with a copy of the solver.
+/// An optimiser at the opening, with a copy of the solver. The one error is `Memory`.
 pub fn new_optimiser(alloc: Global, solver: &Solver) -> Result<Optimiser, Memory>
     requires settled { IsSettled solver.now }
     ensures { IfOk result (StartsFrom solver.now.flow.program) }

@@ -1,5 +1,4 @@
 //! Sessions that book at the hotel of three nights, and a run of them.
-
 ghost use Rattle.std.specs.Prelude.{◌≡◌, ◌≤◌, length, All, IfOk};
 ghost use Rattle.bp_optimise.specs.Sessions.{AreInRange};
 

@@ -5,6 +5,7 @@ use bp_desk_run::Ran;
 use bp_types::Limits;
 use std::test::Fail;
 
+/// Limits in whole rooms.
 fn limits(stale_after: u64, entries: u64, publications: u64) -> Limits {
     Limits {
         stale_after,
@@ -14,6 +15,7 @@ fn limits(stale_after: u64, entries: u64, publications: u64) -> Limits {
     }
 }
 
+/// Whether the entry at a place is this caller's, with this reply.
 fn is_at(book: &Book, place: u64, caller: u32, reply: Reply) -> bool {
     match book.entry(place) {
         Some(entry) => entry.caller == caller && entry.reply == reply,
@@ -21,6 +23,7 @@ fn is_at(book: &Book, place: u64, caller: u32, reply: Reply) -> bool {
     }
 }
 
+/// Whether the entry at the place of a caller's number is its Enrol.
 fn enrols(book: &Book, caller: u32) -> bool {
     match book.entry(caller as u64) {
         Some(entry) => entry.caller == caller && entry.act == Act::Enrol,
@@ -28,7 +31,7 @@ fn enrols(book: &Book, caller: u32) -> bool {
     }
 }
 
-// A session that is behind publishes for itself, and the opener once more at the end.
+/// A session that is behind publishes for itself, and the opener once more at the end.
 #[test]
 fn the_three_call_run(rt: HostRuntime) -> Result<(), Fail> {
     let Ran { book, whole } = run(&rt, rt.alloc(), limits(2, 100, 10), &[&[0, 1, 3]], 0)?;
@@ -65,7 +68,7 @@ fn the_three_call_run(rt: HostRuntime) -> Result<(), Fail> {
     Ok(())
 }
 
-// Two entries alone: the third booking is not made, and the last vector is for what there is.
+/// Two entries alone: the third booking is not made, and the last vector is for what there is.
 #[test]
 fn the_history_is_full(rt: HostRuntime) -> Result<(), Fail> {
     let Ran { book, whole } = run(&rt, rt.alloc(), limits(10, 2, 10), &[&[0, 1, 3]], 0)?;
@@ -75,7 +78,7 @@ fn the_history_is_full(rt: HostRuntime) -> Result<(), Fail> {
     Ok(())
 }
 
-// One vector alone: the third booking waits for another, which nobody may publish.
+/// One vector alone: the third booking waits for another, which nobody may publish.
 #[test]
 fn no_vector_left(rt: HostRuntime) -> Result<(), Fail> {
     let Ran { book, whole } = run(&rt, rt.alloc(), limits(2, 100, 1), &[&[0, 1, 3]], 0)?;
@@ -91,7 +94,7 @@ fn an_empty_script(rt: HostRuntime) -> Result<(), Fail> {
     Ok(())
 }
 
-// Four threads: all commands are there, and the callers enrol in the order of their numbers.
+/// Four threads: all commands are there, and the callers enrol in the order of their numbers.
 #[test]
 fn two_sessions_beside_two_workers(rt: HostRuntime) -> Result<(), Fail> {
     let sessions: [&[u32]; 2] = [&[3, 2, 3, 0, 1, 3], &[0, 3, 3, 2, 1, 0]];

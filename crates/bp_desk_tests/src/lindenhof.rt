@@ -1,5 +1,4 @@
 //! A day at the Lindenhof.
-
 use crate::day::a_day;
 use bp_core::Act::{self, Do, Enrol, Leave, Publish};
 use bp_core::Entry;
@@ -12,6 +11,7 @@ use bp_types::House;
 use std::alloc::Global;
 use std::test::Fail;
 
+/// The hotel file of the example.
 const HOTEL: &str =
     "# Hotel Lindenhof, July 2025: 24 rooms, of which six are being painted in the first week.
 name = \"Hotel Lindenhof\"
@@ -39,6 +39,7 @@ date = \"2025-07-16\"
 rooms = 0
 ";
 
+/// Its stays file.
 const STAYS: &str = "code,arrival,nights,rate,remark
 JUL01-1,2025-07-01,1,8900,
 JUL01-3,2025-07-01,3,24900,
@@ -54,6 +55,7 @@ JUL25-3,2025-07-25,3,31500,
 JUL30-2,2025-07-30,2,18400,
 ";
 
+/// Its forecast file.
 const FORECAST: &str = "code,count
 JUL01-1,650
 JUL01-3,275
@@ -69,6 +71,7 @@ JUL25-3,760
 JUL30-2,410
 ";
 
+/// Its bookings file.
 const BOOKINGS: &str = "code,count
 JUL04-2,3
 JUL07-5,9

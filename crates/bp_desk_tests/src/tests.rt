@@ -19,6 +19,7 @@ use std::process::Abort;
 use std::sync::Wait;
 use std::test::Fail;
 
+/// The last vector is for position 9, and no change stands after it.
 const SUPERSEDED_AT_NINE: SubmitError = SubmitError::Superseded {
     position: 9,
     changes: 0,
@@ -52,8 +53,10 @@ fn no_caller_left(rt: HostRuntime) -> Result<(), Fail> {
     Ok(())
 }
 
+/// Eight changes, up to position 9.
 const EIGHT_FORECASTS: [Row; 8] = [(Reforecast { stay: 3, count: 5 }, Logged(Done)); 8];
 
+/// A board for position 9, and one for an older position after it.
 const OLDER: [Offer<'static>; 2] = [(9, OPENING, Ok(1)), (4, OPENING, Err(SUPERSEDED_AT_NINE))];
 
 #[test]
@@ -65,6 +68,8 @@ fn an_older_board(rt: HostRuntime) -> Result<(), Fail> {
     Ok(())
 }
 
+/// Certificates for a position to come, for one without a change, with prices that are too great, and twice with right
+/// ones.
 const OFFERS: [Offer<'static>; 5] = [
     (4, OPENING, Err(SubmitError::Position { length: 3 })),
     (
@@ -96,6 +101,7 @@ const OFFERS: [Offer<'static>; 5] = [
     ),
 ];
 
+/// The one booking before them.
 const FIRST_BOOKING: [Row; 1] = [(
     Book { stay: 0 },
     Logged(Accepted {
@@ -129,8 +135,10 @@ fn a_certificate_when_all_vectors_are_published(rt: HostRuntime) -> Result<(), F
     Ok(())
 }
 
+/// The second night alone.
 const ON_NIGHT_1: Span = Span { from: 1, to: 2 };
 
+/// Each kind of command, with its replies.
 const CALLS: [Row; 14] = [
     (
         Book { stay: 0 },
@@ -204,17 +212,20 @@ fn a_table_of_calls_on_one_pass(rt: HostRuntime) -> Result<(), Fail> {
     Ok(())
 }
 
+/// The group that is asked for.
 const ASKED: Command = Group {
     span: N12,
     rooms: 1,
     amount: 150,
 };
 
+/// Without a quote, and the change after which one is stale.
 const BEFORE_STALE: [Row; 2] = [
     (ASKED, Unquoted),
     (Book { stay: 3 }, Logged(Accepted { vector: 0, sum: 40 })),
 ];
 
+/// The calls after it.
 const AFTER_STALE: [Row; 2] = [
     (
         Book { stay: 0 },

@@ -1,4 +1,4 @@
-//! Real files.
+//! Real files, as a shelf.
 ghost use Rattle.std.specs.Prelude.{◌≡◌, ◌+◌, ◌≤◌, length, None, IfOk};
 ghost use Rattle.bp_edges.specs.Held.{no_fetch};
 
@@ -30,7 +30,7 @@ impl<'a, R: Files> FileShelf<'a, R> {
     }
 }
 
-// Opens and reads the file, up to one byte past the limit.
+/// Opens and reads the file, up to one byte past the limit.
 fn read_file<R: Files>(rt: &R, alloc: Global, path: &str, limit: u64) -> Result<Reading, AllocError>
     ensures { IfOk result (λ reading. length reading.bytes.items ≤ limit + 1) }
 {

@@ -1,5 +1,4 @@
 //! A gate that callers pass before each of their calls.
-
 use std::sync::Wait;
 
 /// Called by an actor before each of its calls or rounds. It has no meaning, and a test may hold callers with it.

@@ -1,4 +1,4 @@
-//! A file in memory.
+//! A file in memory, as a shelf there holds it.
 ghost use Rattle.std.specs.Prelude.{◌≡◌, string_bytes};
 
 use std::marker::Model;
@@ -28,12 +28,14 @@ impl HeldFile {
         HeldFile { name, bytes }
     }
 
+    /// Its name.
     pub(crate) fn name(&self) -> &str
         ensures { result.now ≡ self.now.name }
     {
         self.name.as_str()
     }
 
+    /// Its bytes.
     pub(crate) fn bytes(&self) -> &[u8]
         ensures { result.now ≡ self.now.bytes }
     {

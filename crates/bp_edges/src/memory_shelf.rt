@@ -1,4 +1,4 @@
-//! A shelf in memory.
+//! A shelf in memory, for tests and for callers that have their texts already.
 ghost use Rattle.std.specs.Prelude.{
   ◌≡◌,
   ◌⊎◌,
@@ -33,7 +33,8 @@ use std::alloc::{AllocError, Global};
 use std::marker::Model;
 
 /// Holds these files, and fails at the calls that its list names, counted from 1, and at each name that it does not
-/// hold. Where two files have one name, the first counts.
+/// hold. Where two files have one name, the first counts. A fetch looks at the files one by one, and copies at most
+/// `limit + 1` bytes.
 #[derive(Drop)]
 pub struct MemoryShelf {
     files: Vec<HeldFile>,
@@ -68,7 +69,7 @@ impl MemoryShelf {
     }
 }
 
-// The first file with this name.
+/// The first file with this name.
 fn find<'a>(files: &'a [HeldFile], name: &str) -> Option<&'a [u8]>
     ensures { option_copied result ≡ map.get (files_of files.now) name.now }
 {
@@ -80,7 +81,7 @@ fn find<'a>(files: &'a [HeldFile], name: &str) -> Option<&'a [u8]>
     None
 }
 
-// A copy of the first bytes, up to one past the limit.
+/// A copy of the first bytes, up to one past the limit.
 fn first_bytes(alloc: Global, text: &[u8], limit: u64) -> Result<Vec<u8>, AllocError>
     ensures { IfOk result (λ bytes. bytes.items ≡ take (limit + 1) text.now) }
 {
@@ -90,7 +91,7 @@ fn first_bytes(alloc: Global, text: &[u8], limit: u64) -> Result<Vec<u8>, AllocE
     Vec::from_slice(alloc, &text[..limit as usize + 1])
 }
 
-// Reads a file of these, or nothing where the call fails.
+/// Reads a file of these, or nothing where the call fails.
 fn read_held(
     alloc: Global,
     files: &[HeldFile],

@@ -1,4 +1,4 @@
-//! A sink in memory.
+//! A sink in memory, for tests and for callers that want the text itself.
 ghost use Rattle.std.specs.Prelude.{◌≡◌, [], Some, OnErr, IsErrOf, ◌≤◌, ◌↔◌};
 ghost use Rattle.bp_edges.specs.Counts.{raised, Rose};
 ghost use Rattle.bp_edges.specs.Schedule.{NextFails, IsOver, one_more};

@@ -1,4 +1,4 @@
-//! Standard output.
+//! Standard output, as a sink.
 ghost use Rattle.std.specs.Prelude.{◌≡◌, None, IsOkUnless};
 ghost use Rattle.bp_edges.specs.Writing.{Writes};
 
@@ -23,7 +23,8 @@ impl<'a, R: Print> OutSink<'a, R> {
     }
 }
 
-/// Writes the whole piece to a stream of `std`, or fails after a first part of it.
+/// Writes the whole piece to a stream of `std`, or fails after a first part of it. The one error is `Failed`: the
+/// stream failed, or took no byte.
 pub fn write_out<W: Write>(out: &mut W, piece: &[u8]) -> Result<(), SinkError>
     ensures writes { Writes (W.contents out.old) (W.contents out.new) piece.now result }
     ensures failed { IsOkUnless result SinkError.Failed }

@@ -23,13 +23,15 @@ ghost use Rattle.bp_edges.specs.declared.reading.TheConstants.{PIECE};
 use std::alloc::{AllocError, Global};
 use std::io::Read;
 
-// How many bytes one read takes at most.
+/// How many bytes one read takes at most.
 const PIECE: usize = 1 << 16;
 
 /// The bytes that came, from the first on, and whether reading went wrong after them.
 #[derive(Drop)]
 pub struct Reading {
+    /// What was read.
     pub bytes: Vec<u8>,
+    /// Whether reading went wrong behind them.
     pub failed: bool,
 }
 
@@ -46,7 +48,7 @@ impl Reading {
     }
 }
 
-// How many bytes to ask for where there may be this many below the last one.
+/// How many bytes to ask for where there may be this many below the last one.
 fn piece_len(below: u64) -> usize
     ensures some { 1 ≤ result }
     ensures within { result ≤ below + 1 }
@@ -59,7 +61,7 @@ fn piece_len(below: u64) -> usize
     }
 }
 
-// Reads once into the piece, and keeps what came behind the bytes. How many came; None is an error of the file.
+/// Reads once into the piece, and keeps what came behind the bytes. How many came; None is an error of the file.
 fn read_once<F: Read>(
     file: &mut F,
     piece: &mut [u8],
@@ -81,7 +83,8 @@ fn read_once<F: Read>(
     }
 }
 
-/// Reads to the end, or to one byte past the limit.
+/// Reads to the end, or to one byte past the limit, in pieces of at most 65,536 bytes. The one error is want of memory;
+/// where the file went wrong, the reading says so.
 pub fn read_up_to<F: Read>(alloc: Global, file: &mut F, limit: u64) -> Result<Reading, AllocError>
     ensures short { IfOk result (λ reading. length reading.bytes.items ≤ limit + 1) }
     ensures read { IfOk result (λ reading. reading.failed ≡ false →

@@ -29,7 +29,7 @@ impl Schedule {
         Schedule { failing, calls: 0 }
     }
 
-    /// Counts a call, and says whether it fails.
+    /// Counts a call, and says whether it fails. It takes the time of the list.
     pub fn next_fails(&mut self) -> bool
         ensures fails { IsTrue result ↔ NextFails self.old }
         ensures counted { self.new ≡ one_more self.old }

@@ -57,7 +57,9 @@ pub trait Shelf {
     /// No later fetch of a name that it holds fails.
     ghost steady: { Self → Type 0 };
 
-    /// The bytes of the file with this name, of which it takes at most `limit + 1`.
+    /// The bytes of the file with this name, of which it takes at most `limit + 1`. It answers `TooLong` where the file
+    /// has more than `limit` bytes, `Failed` where there is no such file or it could not be read, and `Memory` where
+    /// there was none.
     fn fetch(&mut self, alloc: Global, name: &str, limit: u64) -> Result<Vec<u8>, ShelfError>
         ensures within { IfOk result (λ bytes. length bytes.items ≤ limit) }
         ensures answers { ForSome (held self.old) (λ files. Answers (map.get files name.now) limit result) }

@@ -80,7 +80,8 @@ pub trait Sink {
     /// No later put fails.
     ghost steady: { Self → Type 0 };
 
-    /// Takes the piece, behind what it has. To take nothing of a piece that is not empty is a fault.
+    /// Takes the piece, of 65,536 bytes at most, behind what it has. After an error it has taken a first part of it, or
+    /// nothing. To take nothing of a piece that is not empty is a fault.
     fn put(&mut self, alloc: Global, piece: &[u8]) -> Result<(), SinkError>
         requires { length piece.now ≤ MOST_PIECE }
 

@@ -87,7 +87,8 @@ impl Tally {
         self.failed = true;
     }
 
-    /// Answers a fetch whose reading stopped one byte past the limit, and counts it.
+    /// Answers a fetch whose reading stopped one byte past the limit at the latest, and counts it: `Failed` where
+    /// reading went wrong, `TooLong` where it came past the limit.
     pub fn answer(
         &mut self,
         name: String,

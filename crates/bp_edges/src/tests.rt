@@ -1,3 +1,4 @@
+//! Tests: each edge once with ample memory, readers and writers that move a byte at a time, and where they fail.
 ghost use Rattle.std.specs.Prelude.{◌≤◌, IfOk};
 
 use super::*;
@@ -20,7 +21,7 @@ const FAILED: &str = "(failed)";
 
 const TOO_LONG: &str = "(too long)";
 
-// Whether a fetch through the bound gives this text, or the refusal that it names.
+/// Whether a fetch through the bound gives this text, or the refusal that it names.
 fn gives<S: Shelf>(shelf: &mut S, alloc: Global, name: &str, limit: u64, want: &[u8]) -> bool {
     match shelf.fetch(alloc, name, limit) {
         Ok(bytes) => bytes.as_slice() == want,
@@ -32,7 +33,7 @@ fn gives<S: Shelf>(shelf: &mut S, alloc: Global, name: &str, limit: u64, want: &
 
 const FILES: [(&str, &str); 3] = [("a", "one"), ("b", "two two"), ("a", "another")];
 
-// The name and the limit of each fetch, and what it gives. The second and the fifth are to fail.
+/// The name and the limit of each fetch, and what it gives. The second and the fifth are to fail.
 const FETCHES: [(&str, u64, &str); 8] = [
     ("a", 100, "one"),
     ("a", 100, FAILED),
@@ -61,7 +62,7 @@ fn a_shelf_in_memory_fails_where_it_is_told_to(rt: HostRuntime) -> Result<(), Fa
     Ok(())
 }
 
-// Each piece, and whether it is taken. The second and the fourth put are to fail.
+/// Each piece, and whether it is taken. The second and the fourth put are to fail.
 const PUTS: [(&str, bool); 5] = [
     ("ab", true),
     ("cd", false),
@@ -124,7 +125,7 @@ fn standard_output_takes_a_piece(rt: HostRuntime) {
     assert!(rt; sink.put(rt.alloc(), b"a piece\n").is_ok());
 }
 
-// Moves a byte at a time, and then fails or ends.
+/// Moves a byte at a time, and then fails or ends.
 #[derive(Drop)]
 struct ByteByByte {
     left: u8,
@@ -170,7 +171,7 @@ impl Write for ByteByByte {
     }
 }
 
-// How many bytes are left, whether an error follows, the limit, what is read, and whether reading went wrong.
+/// How many bytes are left, whether an error follows, the limit, what is read, and whether reading went wrong.
 const READS: [(u8, bool, u64, &[u8], bool); 4] = [
     (3, false, 9, b"\x02\x01\x00", false),
     (3, true, 9, b"\x02\x01\x00", true),
@@ -192,7 +193,7 @@ fn reading_byte_by_byte(rt: HostRuntime) -> Result<(), Fail> {
     Ok(())
 }
 
-// How many bytes go out, whether an error follows, and whether three bytes are written.
+/// How many bytes go out, whether an error follows, and whether three bytes are written.
 const WRITES: [(u8, bool, bool); 3] = [(3, true, true), (2, false, false), (2, true, false)];
 
 #[test]

@@ -8,10 +8,13 @@ use crate::three_nights::stay;
 use bp_stayfile::Stays;
 use std::process::Abort;
 
+/// The header of a stays file.
 const STAYS_HEADER: &str = "code,arrival,nights,rate\n";
 
+/// The header of a forecast or a bookings file.
 const COUNTS_HEADER: &str = "code,count\n";
 
+/// Wants the four stays with their codes and these forecasts.
 fn are_the_four(rt: &impl Abort, stays: &Stays, forecasts: [u64; 4]) {
     let [first, second, third, fourth] = forecasts;
     let expected = [

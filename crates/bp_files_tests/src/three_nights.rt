@@ -1,5 +1,4 @@
 //! The hotel of three nights and its four stays, as files, and what the tests of files share.
-
 ghost use Rattle.std.specs.Prelude.{◌≡◌, length, IfOk};
 
 use bp_hotelfile::{Hotel, read_hotel};
@@ -47,6 +46,7 @@ pub(crate) fn refusal<T: Drop>(read: Result<T, TableError>) -> Option<TableRefus
     }
 }
 
+/// A stay from a night up to another.
 pub(crate) fn stay(from: u32, to: u32, rate: u64, forecast: u64) -> Stay {
     let span = Span { from, to };
     Stay {

@@ -1,3 +1,4 @@
+//! What rooms cost an instance, by certificates before and after.
 ghost use Rattle.std.specs.Prelude.{◌≡◌, false, length, IfOk, IsTrue};
 ghost use Rattle.bp_types.specs.Changes.{changed, HasUnits};
 ghost use Rattle.bp_types.specs.Spans.{IsSpanWithin};
@@ -21,7 +22,9 @@ fn has_units(instance: &Instance, span: Span, units: u64) -> bool
     true
 }
 
-/// What the optimum of an instance loses by so many units on a span, by an optimal certificate of each.
+/// What the optimum of an instance loses by so many units on each night of a span, in minor units of money, by an
+/// optimal certificate of each. It fails where the span is none of the instance's, a night lacks the units, or a claim
+/// is wrong.
 pub fn displacement(
     alloc: Global,
     instance: &Instance,

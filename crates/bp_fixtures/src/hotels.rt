@@ -1,3 +1,4 @@
+//! The numbers of the two hotels, and the claims that are right for them.
 use bp_types::{Limits, Span, Stay};
 
 /// Value, sell numbers by stay and prices by night, as somebody claims them for a hotel.
@@ -6,9 +7,13 @@ pub type Claimed<'a> = (u128, &'a [u64], &'a [u64]);
 /// A hotel as its desk opens: rooms and sold rooms by night, stays, and the claim of the first prices.
 #[derive(Clone, Copy)]
 pub struct Numbers<'a> {
+    /// The rooms of each night, in whole rooms.
     pub rooms: &'a [u64],
+    /// The sold rooms of each night, in whole rooms.
     pub sold: &'a [u64],
+    /// The stays, whose rates are in minor units of money.
     pub stays: &'a [Stay],
+    /// The claim of the first prices.
     pub opening: Claimed<'a>,
 }
 
@@ -63,7 +68,8 @@ pub const STAYS: [Stay; 4] = [
 /// The best that the four stays bring on three nights: all but the first are sold.
 pub const OPENING: Claimed<'static> = (250, &[0, 1, 1, 1], &[0, 100, 40]);
 
-/// The best after one booking of the first stay. The second night is full, and its price is not the least that it may be.
+/// The best after one booking of the first stay. The second night is full, and its price is not the least that it may
+/// be.
 pub const AFTER_ONE: Claimed<'static> = (140, &[0, 0, 1, 2], &[0, 120, 40]);
 
 /// The best with one room fewer on each of the last two nights.

@@ -1,3 +1,4 @@
+//! Houses, instances and boards made of such numbers. A claim is checked before a board has it.
 ghost use Rattle.std.specs.Prelude.{◌≡◌, length, IfOk};
 ghost use Rattle.std.specs.Arc.{arc_value};
 ghost use Rattle.bp_types.specs.Claim.{IsCertificateOf};
@@ -10,7 +11,7 @@ use std::alloc::Global;
 use std::sync::Arc;
 use std::test::Fail;
 
-/// The house of these rooms and sold rooms by night, these stays and these limits.
+/// The house of these rooms and sold rooms by night, these stays and these limits. It fails where they break one.
 pub fn house(
     alloc: Global,
     rooms: &[u64],
@@ -29,7 +30,7 @@ pub fn house(
     }
 }
 
-/// The house of the four stays on three nights, with nothing sold.
+/// The house of the four stays on three nights, with nothing sold. It fails where it breaks one of these limits.
 pub fn three_nights(alloc: Global, limits: Limits) -> Result<House, Fail>
     ensures nights { IfOk result (λ h. length h.rooms ≡ 3) }
     ensures stays { IfOk result (λ h. length h.stays ≡ 4) }
@@ -38,7 +39,7 @@ pub fn three_nights(alloc: Global, limits: Limits) -> Result<House, Fail>
     house(alloc, &ROOMS, &NOTHING_SOLD, &STAYS, limits)
 }
 
-/// The instance of these rooms by night and these stays.
+/// The instance of these rooms by night and these stays. It fails where they break a limit.
 pub fn instance(alloc: Global, rooms: &[u64], stays: &[Stay]) -> Result<Instance, Fail>
     ensures { IfOk result (λ p. p ≡ record { rooms = rooms.now; stays = stays.now }) }
 {
@@ -50,7 +51,7 @@ pub fn instance(alloc: Global, rooms: &[u64], stays: &[Stay]) -> Result<Instance
     }
 }
 
-/// The certificate with these numbers, right or not.
+/// The certificate with these numbers, right or not. The one error is `Memory`.
 pub fn certificate(alloc: Global, claimed: Claimed<'_>) -> Result<Certificate, Memory>
     ensures { IfOk result (λ c. c ≡ record {
       value = claimed.entry.0;
@@ -80,7 +81,7 @@ pub fn optimal(
     }
 }
 
-/// The board of these numbers for a position, where nothing is worth more.
+/// The board of these numbers for a position, where nothing is worth more; else a failure that names the verdict.
 pub fn board_of(
     alloc: Global,
     instance: &Instance,
@@ -96,7 +97,8 @@ pub fn board_of(
     Ok(Arc::new(alloc, board)?)
 }
 
-/// The board that a desk opens with, where the certificate is right for the house as it is then.
+/// The board that a desk opens with, where the certificate is right for the house as it is then; else a failure that
+/// names the verdict.
 pub fn opening_board(
     alloc: Global,
     start: &Instance,

@@ -1,3 +1,4 @@
+//! The claims, checked for their hotels.
 use super::*;
 use std::test::Fail;
 

@@ -1,4 +1,4 @@
-//! A stay's forecast and its rate.
+//! The forecast of a stay, set in a flow, and what is sold of the stay with it.
 ghost use Rattle.std.specs.Prelude.{◌≡◌, ℕ, ◌+◌, ◌-◌, ◌<◌, ◌≤◌, false, length, slice_index};
 ghost use Rattle.bp_types.specs.declared.limits.TheConstants.{MOST_FORECAST};
 ghost use Rattle.bp_types.specs.declared.change.Change.TheVariants.{Rooms, Demand};
@@ -31,7 +31,8 @@ fn set_demand(flow: &mut Flow, stay: u32, value: u64, units: u64)
     }
 }
 
-/// Sets a stay's forecast; what is sold follows it where the stay is worth more than its nights.
+/// Sets a stay's forecast, in units; what is sold follows it where the stay is worth more than its nights. It makes at
+/// most as many searches as the two forecasts differ by.
 pub(crate) fn reforecast<L: Ledger>(
     flow: &mut Flow,
     scratch: &mut Scratch,

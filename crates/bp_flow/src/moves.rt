@@ -12,6 +12,7 @@ use bp_types::Steps;
 use bp_types::limits::MOST_NODES;
 use std::sync::ledger::Ledger;
 
+/// The raises of a lift: the distances of the last search, cut off at the target's.
 fn fill_raises(scratch: &Scratch, target: u128, by: &mut [u128])
     requires size { length by.old ≡ length scratch.now.distances }
     requires few { length by.old ≤ MOST_NODES }
@@ -76,9 +77,9 @@ fn augment<L: Ledger>(
     }
 }
 
-/// Moves units from one node to another, by successive shortest paths, where the flow has that imbalance:
-/// on each night between the nodes it carries so many units too few, or too many where `to` is the earlier.
-/// Afterwards it carries exactly the rooms. It makes as many searches as there are units at most.
+/// Moves units from one node to another, by successive shortest paths with potentials, where the flow has that
+/// imbalance: on each night between the nodes it carries so many units too few, or too many where `to` is the earlier.
+/// Afterwards it carries exactly the rooms. It makes as many searches as there are units at most, and takes no memory.
 pub fn shift<L: Ledger>(
     flow: &mut Flow,
     scratch: &mut Scratch,

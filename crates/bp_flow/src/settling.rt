@@ -1,4 +1,4 @@
-//! The least optimal prices.
+//! The least optimal prices, found by the distances to the last node.
 ghost use Rattle.std.specs.Prelude.{◌≡◌, ℕ, ◌+◌, ◌-◌, ◌<◌, ◌≤◌, length, slice_index};
 ghost use Rattle.bp_residual.specs.Network.{Priced, IsSlack, IsBalanced, nodes};
 ghost use Rattle.bp_paths.specs.Paths.{far};
@@ -12,6 +12,7 @@ use bp_types::Steps;
 use bp_types::limits::MOST_NODES;
 use std::sync::ledger::Ledger;
 
+/// The raises that lower each potential by its node's distance to the last one, but for one number that all get.
 fn fill_falls(scratch: &Scratch, top: u128, by: &mut [u128])
     requires size { length by.old ≡ length scratch.now.distances }
     requires few { length by.old ≤ MOST_NODES }

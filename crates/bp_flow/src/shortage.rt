@@ -7,9 +7,11 @@ ghost use Rattle.bp_flow.specs.Solvers.{IsShortage, HasAll, lack_at};
 use crate::Solver;
 use bp_types::Instance;
 
-/// Nights in a row that all lack rooms, or all have too many: up to which night, and how many at least.
+/// Nights in a row that all lack rooms, or all have too many.
 pub(crate) struct Shortage {
+    /// The night after the last of them.
     pub(crate) to: u32,
+    /// How many units each of them lacks, or has too many, at least.
     pub(crate) units: u64,
 }
 

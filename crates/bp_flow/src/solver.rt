@@ -58,8 +58,12 @@ use std::sync::ledger::Ledger;
 
 /// A flow that carries exactly the rooms, without negative reduced costs, and the memory of its searches.
 ///
-/// Contracts see the flow with its potentials, and how many searches were made; the instance that is solved is
-/// the program of that flow.
+/// Contracts see the flow with its potentials, and how many searches were made; the instance that is solved is the
+/// program of that flow.
+///
+/// A change makes at most as many searches as it moves units: the units of `raise` and `lower`, however long the span
+/// is, the difference of the forecasts of `demand`, and twice the forecast of `reprice`. A call takes memory only where
+/// it is given an allocator.
 #[derive(Drop)]
 pub struct Solver {
     flow: Flow,
@@ -80,7 +84,8 @@ impl Model for Solver {
 }
 
 impl Solver {
-    /// Solves an instance from nothing. The steps rise by the searches that its scratch served.
+    /// Solves an instance from nothing. The steps rise by the searches that its scratch served. The one error is
+    /// `Memory`.
     ///
     /// It begins with what a network simplex found, as far as that is a flow that carries rooms of its own without
     /// negative reduced costs, and leads those rooms to the instance's. Each search brings at least one unit to all
@@ -206,7 +211,8 @@ impl Solver {
         }
     }
 
-    /// A copy, which goes its own way from here on, and has made no search. It takes the kept ways along.
+    /// A copy, which goes its own way from here on, and has made no search. It takes the kept ways along. The one error
+    /// is `Memory`.
     pub fn copy(&self, alloc: Global) -> Result<Solver, Memory>
         ensures same { IfOk result (λ s. priced s ≡ priced self.now) }
         ensures served { IfOk result (λ s. s.served ≡ 0) }
@@ -218,7 +224,8 @@ impl Solver {
 
     /// Makes it the same solver as another one, without taking memory, where they have as many nights, and stays of the
     /// same spans in the same order: the same instance and flow, the same prices, whether settled or not, and as many
-    /// searches. It takes the other's kept ways along. Answers whether they have; else nothing changes.
+    /// searches. It takes the other's kept ways along. Answers whether they have; else nothing changes. It takes the
+    /// time of a look at each stay and night.
     pub fn set_to(&mut self, other: &Solver) -> bool
         ensures set { IsTrue result → self.new ≡ other.now }
         ensures not_set { result ≡ false → self.new ≡ self.old }
@@ -364,7 +371,8 @@ impl Solver {
         let _nights = self.flow.nights();
     }
 
-    /// The optimum of the instance, in minor units of money times the unit. It takes no memory.
+    /// The optimum of the instance, in minor units of money times the unit. It takes no memory, and the time of the
+    /// stays.
     pub fn value(&self) -> u128
         ensures { IsOptimum self.now.flow.program result }
     {
@@ -372,8 +380,8 @@ impl Solver {
         self.flow.worth()
     }
 
-    /// The allocation, the prices, and the revenue as the value of both: a certificate of the instance. From a
-    /// settled solver its prices are the least ones.
+    /// The allocation, the prices, and the revenue as the value of both: a certificate of the instance. From a settled
+    /// solver its prices are the least ones. The one error is `Memory`.
     pub fn certificate(&self, alloc: Global) -> Result<Certificate, Memory>
         ensures certifies { IfOk result (IsCertificateOf self.now.flow.program) }
         ensures least { IfOk result (λ c. IsSettled self.now → IsLeastCertificate self.now.flow.program c) }
@@ -386,7 +394,8 @@ impl Solver {
         Ok(certificate)
     }
 
-    /// The bid price of each night, in minor units of money: once settled, the least optimal ones.
+    /// The bid price of each night, in minor units of money: once settled, the least optimal ones. The one error is
+    /// `Memory`.
     pub fn prices(&self, alloc: Global) -> Result<Vec<u64>, Memory>
         ensures { IfOk result (λ v. IsSettled self.now → AreLeastPrices self.now.flow.program v.items) }
     {

@@ -1,8 +1,7 @@
 //! What a group costs a hotel: the displacement of its rooms, with a certificate of both optima.
 //!
-//! A group takes the same number of rooms on each night of a span. It is worth having where it pays at least
-//! what the optimum of the instance loses by it. That loss is no less than its rooms at their bid prices, and
-//! may be more.
+//! A group takes the same number of rooms on each night of a span. It is worth having where it pays at least what the
+//! optimum of the instance loses by it. That loss is no less than its rooms at their bid prices, and may be more.
 //!
 //! What a group displaces, from a solver of the instance.
 //!

@@ -15,8 +15,12 @@ use bp_types::{Certificate, Memory, Span, Steps, law};
 use std::alloc::Global;
 use std::sync::ledger::Ledger;
 
-/// What a group of so many units on each night of a span costs a settled solver's instance, as of a position
-/// of a history. The solver stays as it is; memory is asked for only where each night has the units.
+/// What a group of so many units on each night of a span costs a settled solver's instance, as of a position of a
+/// history. The solver stays as it is.
+///
+/// It answers `NoRoom` where a night has fewer units, before memory is asked for, and `Memory` where there is none for
+/// a copy of the solver and the two certificates. It makes as many searches as units, and one more, at most, all on the
+/// copy.
 pub fn quote<L: Ledger>(
     alloc: Global,
     solver: &Solver,

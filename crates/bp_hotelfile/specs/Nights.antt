@@ -70,6 +70,7 @@ abbrev pub tables_in : Option Data → Result (List (Option NightTable)) HotelRe
 tables_in None = Ok []
 tables_in (Some d) = ok_or (option_map night_tables (as_array d)) (Kind key.Night)
 
+-- the tables of nights of a file, in its order
 abbrev pub tables_at : Members → Result (List (Option NightTable)) HotelRefusal
 tables_at tree = tables_in (value_at key.Night tree)
 
@@ -91,6 +92,7 @@ wrong_with first nights index earlier (Some t) =
     else if is_some (own_rooms earlier t.day) then Some (TwiceNight index)
     else None
 
+-- what is wrong with the table at a place of the list
 abbrev pub wrong_at : ℕ → ℕ → List (Option NightTable) → ℕ → Option HotelRefusal
 wrong_at first nights tables index =
     wrong_with first nights index (take index tables) (slice_index_or tables index None)
@@ -109,6 +111,7 @@ abbrev pub wrong_by_night : ℕ → ℕ → List (Option ℕ) → Option ℕ →
 wrong_by_night first index own None = Some (NightOutside index)
 wrong_by_night first index own (Some n) = if is_some (slice_index_or own n None) then Some (TwiceNight index) else None
 
+-- the same of a table whose form is looked at first
 abbrev pub wrong_by_rooms : ℕ → ℕ → List (Option ℕ) → Option NightTable → Option HotelRefusal
 wrong_by_rooms first index own None = Some (NightShape index)
 wrong_by_rooms first index own (Some t) = wrong_by_night first index own (night_on first (length own) t.day)

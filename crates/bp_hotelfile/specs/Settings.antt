@@ -50,6 +50,7 @@ or_else absent read (Some d) = read d
 abbrev pub number_or : ℕ → Key → ℕ → ℕ → Members → Result ℕ HotelRefusal
 number_or absent k least most tree = or_else absent (number_in k least most) (value_at k tree)
 
+-- a unit: 1, or a hundred
 abbrev pub unit_in : Data → Result ℕ HotelRefusal
 unit_in d = number_in key.Unit 1 HUNDREDTHS d >>= (λ u. if is_unit u then Ok u else Err (Range key.Unit))
 

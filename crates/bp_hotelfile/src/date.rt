@@ -1,3 +1,4 @@
+//! Dates in text, as `2025-07-01`, and their day numbers.
 ghost use Rattle.std.specs.Prelude.{◌≡◌, ◌≤◌, ◌<◌, ◌+◌, ◌*◌, ◌==◌, length, pos, ◌+ℤ◌, Some, None, if◌then◌else◌};
 ghost use Rattle.std.specs.Str.{all_ascii_digits};
 ghost use Rattle.bp_hotelfile.specs.Numbers.{number};
@@ -10,7 +11,7 @@ use jiff_core::civil;
 /// The day number of 9999-12-31, counted from -9999-01-01.
 pub(crate) const LAST_DAY: u32 = 7_304_483;
 
-/// The number that a few decimal digits write.
+/// The number that four decimal digits at most write; None where a byte is no digit.
 fn digits(bytes: &[u8]) -> Option<u16>
     requires { length bytes.now ≤ 4 }
     ensures { result ≡ (if all_ascii_digits bytes.now then Some (number bytes.now) else None) }
@@ -62,7 +63,7 @@ fn two_digits(number: u16) -> (u8, u8)
     (b'0' + (number / 10) as u8, b'0' + (number % 10) as u8)
 }
 
-/// The text of a day.
+/// The text of a day, as `2025-07-01`.
 pub(crate) fn text_of(day: u32) -> [u8; 10]
     requires from { first_day ≤ day }
     requires to { day ≤ LAST_DAY }

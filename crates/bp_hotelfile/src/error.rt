@@ -1,3 +1,4 @@
+//! Why a hotel file is refused, and why a text names no night.
 ghost use Rattle.std.specs.Prelude.{◌≡◌};
 ghost use Rattle.bp_hotelfile.specs.declared.error.HotelError.TheVariants.{Refused, Memory as NoMemory};
 
@@ -7,25 +8,29 @@ use thiserror::Error;
 
 /// Why a hotel file is refused: the first thing that is wrong with it.
 ///
-/// Keys are looked at in the order of [`Key`]: what is missing, of the wrong kind, no date, or outside its
-/// range. Only then come the tables of `night`, by their index from 0.
+/// Keys are looked at in the order of [`Key`]: what is missing, of the wrong kind, no date, or outside its range. Only
+/// then come the tables of `night`, by their index from 0.
 #[derive(Clone, Copy, Debug, PartialEq, Eq, Error)]
 pub enum HotelRefusal {
     /// The bytes are no UTF-8, or no TOML.
     #[error("the file is no TOML")]
     NotToml,
+    /// The key has to be there, and is not.
     #[error("the key {} is missing", key.text())]
     Missing { key: Key },
     /// A text stands where a number is wanted, or the like.
     #[error("the key {} has a value of another kind", key.text())]
     Kind { key: Key },
+    /// A text that is no date stands under the key.
     #[error("the key {} is no date", key.text())]
     Date { key: Key },
+    /// A number is outside its limits, or the day after the last night has no date.
     #[error("the key {} is out of range", key.text())]
     Range { key: Key },
-    /// It is no table with a date and a number of rooms.
+    /// The table of this index, counted from 0, has no date or no number of rooms within its limit.
     #[error("the night table {index} has no date or no number of rooms")]
     NightShape { index: u32 },
+    /// Its date is none of the hotel's nights.
     #[error("the night table {index} is of no night of the hotel")]
     NightOutside { index: u32 },
     /// An earlier table is of the same night.

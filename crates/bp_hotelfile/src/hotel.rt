@@ -1,3 +1,4 @@
+//! The hotel that a hotel file gives, and its reader.
 ghost use Rattle.std.specs.Prelude.{◌≡◌, ◌+◌, ◌<◌, length, slice_index, IfOk, IfErr, Ok, Err, Some};
 ghost use Rattle.bp_hotelfile.specs.Refusals.{IfRefused};
 ghost use Rattle.bp_hotelfile.specs.Dates.{day_of};
@@ -32,7 +33,7 @@ impl Model for Hotel {
     ghost invariant = { λ h. IsSeason (record { first = h.first; rooms = h.rooms.items; limits = h.limits }) };
 }
 
-/// The hotel of a hotel file, or the first thing that is wrong with it.
+/// The hotel of a hotel file, or the first thing that is wrong with it. `Memory` says nothing of the file.
 pub fn read_hotel(alloc: Global, bytes: &[u8]) -> Result<Hotel, HotelError>
     ensures read { IfOk result (λ h. season_of bytes.now ≡ Ok h) }
     ensures season { IfOk result (λ h. IsSeason h) }
@@ -58,7 +59,7 @@ impl Hotel {
         self.rooms.len() as u32
     }
 
-    /// The rooms of a night.
+    /// The rooms of a night, in whole rooms.
     pub fn rooms(&self, night: u32) -> u64
         requires { night < length self.now.rooms }
         ensures { result ≡ slice_index self.now.rooms night }
@@ -66,7 +67,7 @@ impl Hotel {
         self.rooms[night as usize]
     }
 
-    /// The rooms of each night, from the first on.
+    /// The rooms of each night, from the first on, in whole rooms.
     pub fn rooms_by_night(&self) -> &[u64]
         ensures value { result.now ≡ self.now.rooms }
         ensures season { IsSeason self.now }
@@ -74,14 +75,14 @@ impl Hotel {
         &self.rooms
     }
 
-    /// The limits of the desk, the unit among them.
+    /// The limits of the desk: commands, vectors, stale changes, and the unit.
     pub fn limits(&self) -> Limits
         ensures { result ≡ self.now.limits }
     {
         self.limits
     }
 
-    /// The night of a date, as `2025-07-01`.
+    /// The night of a date, as `2025-07-01`, counted from 0; an error where it is no date or none of the nights.
     pub fn night_of(&self, text: &str) -> Result<u32, DateError>
         ensures { result ≡ night_of self.now text.now }
     {

@@ -1,3 +1,4 @@
+//! The keys of the hotel file.
 ghost use Rattle.std.specs.Prelude.{◌≡◌};
 ghost use Rattle.bp_hotelfile.specs.Keys.{key_text};
 

@@ -1,5 +1,4 @@
 //! Laws over the definitions, as the contracts of functions that do nothing.
-
 ghost use Rattle.bp_hotelfile.specs.Laws.{FilesGiveSeasons, DaysHaveOneText};
 
 /// What a hotel file says keeps to every limit.

@@ -1,3 +1,4 @@
+//! The tables of nights that have rooms of their own, and the rooms of every night.
 ghost use Rattle.std.specs.Prelude.{
   ◌≡◌,
   ◌≢◌,
@@ -47,15 +48,18 @@ use toml::{Table, Value};
 pub(crate) struct NightTable {
     /// The day number of the night.
     pub day: u32,
+    /// Its rooms, in whole rooms.
     pub rooms: u64,
 }
 
+/// The day number of the date in a table.
 fn day_under(value: &Value) -> Option<u32>
     ensures { result ≡ day_under (view value.now) }
 {
     day_of(value.get("date")?.as_str()?)
 }
 
+/// The number of rooms in a table, where it is within its limit.
 fn rooms_under(value: &Value) -> Option<u64>
     ensures { result ≡ rooms_under (view value.now) }
 {
@@ -71,6 +75,7 @@ fn night_table(value: &Value) -> Option<NightTable>
     Some(NightTable { day, rooms })
 }
 
+/// Each item, read as such a table.
 fn night_tables(alloc: Global, values: &[Value]) -> Result<Vec<Option<NightTable>>, Memory>
     ensures { IfOk result (λ v. v.items ≡ map (λ d. night_table (view d)) values.now) }
 {
@@ -81,6 +86,7 @@ fn night_tables(alloc: Global, values: &[Value]) -> Result<Vec<Option<NightTable
     Ok(tables)
 }
 
+/// The tables in what stands under `night`, which has to be a list.
 fn tables_in(alloc: Global, value: &Value) -> Result<Vec<Option<NightTable>>, HotelError>
     ensures ok { IfOk result (λ v. tables_in (Some (view value.now)) ≡ Ok v.items) }
     ensures err { IfErr result (λ e. IfRefused e (λ r. tables_in (Some (view value.now)) ≡ Err r)) }

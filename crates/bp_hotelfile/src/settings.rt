@@ -1,3 +1,4 @@
+//! What stands under the keys, in their order: the first night, nights, rooms and limits.
 ghost use Rattle.std.specs.Prelude.{◌≡◌, Ok};
 ghost use Rattle.toml.specs.View.{view, table_view};
 ghost use Rattle.bp_hotelfile.specs.Settings.{
@@ -28,11 +29,15 @@ const STALE_AFTER: u64 = 20;
 pub(crate) struct Settings {
     /// The day number of the first night.
     pub first: u32,
+    /// How many nights there are.
     pub nights: u64,
+    /// The rooms of a night without a table of its own, in whole rooms.
     pub rooms: u64,
+    /// The limits of the desk.
     pub limits: Limits,
 }
 
+/// The day number of a date that must be there.
 fn day_at(table: &Table, key: Key) -> Result<u32, HotelRefusal>
     ensures { result ≡ day_at key (table_view table.now) }
 {
@@ -66,6 +71,7 @@ fn number_or(
     }
 }
 
+/// A unit: 1, or a hundred.
 fn unit_in(value: &Value) -> Result<u64, HotelRefusal>
     ensures { result ≡ unit_in (view value.now) }
 {
@@ -77,6 +83,7 @@ fn unit_in(value: &Value) -> Result<u64, HotelRefusal>
     }
 }
 
+/// The unit, 1 where the key is absent.
 fn unit_at(table: &Table) -> Result<u64, HotelRefusal>
     ensures { result ≡ unit_at (table_view table.now) }
 {
@@ -99,6 +106,8 @@ fn first_with(first: u32, nights: u64) -> Result<u32, HotelRefusal>
     }
 }
 
+/// The limits of the desk. Where their keys are absent, entries and publications are the most that may be,
+/// `stale_after` is 20 and the unit 1.
 fn limits_of(table: &Table) -> Result<Limits, HotelRefusal>
     ensures { result ≡ limits_of (table_view table.now) }
 {

@@ -1,3 +1,4 @@
+//! The file as a tree of TOML, and the values under its keys.
 ghost use Rattle.std.specs.Prelude.{◌≡◌, ◌≢◌, option_map, IfOk, IfErr, MatchResult, Ok, Err};
 ghost use Rattle.bp_hotelfile.specs.Refusals.{IfRefused};
 ghost use Rattle.toml.specs.View.{view, table_view};
@@ -9,7 +10,7 @@ use crate::{HotelError, HotelRefusal, Key};
 use std::alloc::Global;
 use toml::{Table, Value};
 
-/// The tree of a file.
+/// The tree of a file, which has to be UTF-8 and TOML.
 pub(crate) fn tree_of(alloc: Global, bytes: &[u8]) -> Result<Table, HotelError>
     ensures ok { IfOk result (λ t. tree_of bytes.now ≡ Ok (table_view t)) }
     ensures err { IfErr result (λ e. IfRefused e (λ r. tree_of bytes.now ≡ Err r)) }

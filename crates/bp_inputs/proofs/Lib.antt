@@ -1,3 +1,5 @@
+-- Lemmas on files, each page after those that it rests on.
+
 -- how what is said of plans joins
 pub mod StageLemmas
 -- the files of a hotel are read in one way

@@ -27,6 +27,7 @@ pub mod stays;
 
 /// A kind of file, with the values of earlier files that its reader stands on.
 pub trait Kind {
+    /// What such a file gives.
     type Value;
 
     /// How many bytes such a file may have.
@@ -44,9 +45,11 @@ pub trait Kind {
     /// What is known of each value that is read.
     ghost keeps: { Self → Self.Value → Type 0 };
 
+    /// That number of bytes.
     fn most_bytes(&self) -> u64
         ensures { result ≡ most self.now };
 
+    /// The value of these bytes, or why there is none.
     fn read(&self, alloc: Global, bytes: &[u8]) -> Result<Self::Value, Unread>
         requires { needs self.now }
         ensures accepted { IfOk result (λ v. accepts self.now bytes.now v) }
@@ -54,7 +57,7 @@ pub trait Kind {
         ensures refused { IfErr result (λ u. IfRefused u (refuses self.now bytes.now)) };
 }
 
-// Fetches a file of at most so many bytes.
+/// Fetches a file of at most so many bytes.
 fn fetch_file<S: Shelf>(
     alloc: Global,
     shelf: &mut S,
@@ -80,7 +83,8 @@ fn fetch_file<S: Shelf>(
     }
 }
 
-/// The value of the file with this name, which is the file with this number.
+/// The value of the file with this name, which is the file with this number, counted from 1. Where there is none, the
+/// answer says why: the shelf failed, the file is refused, or there was no memory.
 pub fn load<K: Kind, S: Shelf>(
     alloc: Global,
     shelf: &mut S,

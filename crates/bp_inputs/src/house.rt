@@ -20,9 +20,13 @@ use std::alloc::Global;
 /// The names of a hotel's four files.
 #[derive(Clone, Copy, Debug)]
 pub struct HotelFiles<'a> {
+    /// The hotel file.
     pub hotel: &'a str,
+    /// The stays file.
     pub stays: &'a str,
+    /// The forecast file.
     pub forecast: &'a str,
+    /// The bookings file.
     pub bookings: &'a str,
 }
 
@@ -30,12 +34,15 @@ pub struct HotelFiles<'a> {
 /// with.
 #[derive(Drop)]
 pub struct OpenHotel {
+    /// The nights with their rooms, and the limits.
     pub hotel: Hotel,
+    /// The stays with their codes and forecasts.
     pub stays: Stays,
+    /// The house, whose stays are these without their codes.
     pub house: House,
 }
 
-// The house. Its parts break no limit.
+/// The house. Its parts break no limit.
 fn make_house(alloc: Global, hotel: &Hotel, stays: &Stays, sold: Sold) -> Result<House, Memory>
     requires of_hotel { stays.now.nights ≡ length hotel.now.rooms }
     requires sold { AreSold hotel.now.rooms sold }
@@ -50,7 +57,8 @@ fn make_house(alloc: Global, hotel: &Hotel, stays: &Stays, sold: Sold) -> Result
     }
 }
 
-/// What a hotel's four files say, the first of which has this number.
+/// What a hotel's four files say, the first of which has this number; else why the first of them that gives no value
+/// gives none.
 pub fn load_house<S: Shelf>(
     alloc: Global,
     shelf: &mut S,

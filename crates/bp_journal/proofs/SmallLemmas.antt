@@ -3,7 +3,7 @@ use Rattle.std.proofs.Common.{ℕ, zero, suc, ◌*◌, ◌<◌, ◌≤◌, arith
 use Rattle.std.proofs.Math.Nat.{mul-le-mul}
 use Rattle.std.proofs.lemmas.List.{get_or_default}
 use Rattle.bp_types.specs.declared.stay.Span.{Span}
-use Rattle.bp_types.specs.declared.limits.TheConstants.{MOST_PRICE}
+use Rattle.bp_types.specs.declared.limits.TheConstants.{MOST_PRICE, MOST_VALUE}
 use Rattle.bp_types.specs.Sums.{sum_below}
 use Rattle.bp_types.specs.Program.{Program, no_stay, stay_at, covers, worth, price}
 use Rattle.bp_types.specs.Limits.{IsWithinLimits}
@@ -11,7 +11,6 @@ use Rattle.bp_types.specs.Optimum.{IsFeasible}
 use Rattle.bp_types.specs.Claim.{Claim, IsCertificateOf}
 use Rattle.bp_types.specs.Displacement.{IsDisplacement}
 use Rattle.bp_cert.specs.Texts.{IsSpeakable}
-use Rattle.bp_journal.specs.declared.limits.TheConstants.{MOST_DISPLACEMENT}
 
 prices_sum : (f : ℕ → ℕ) (n : ℕ) → ((k : ℕ) → k < n → f k ≤ 1000000000) → sum_below f n ≤ 1000000000 * n
 prices_sum f zero each = omega arith
@@ -43,7 +42,7 @@ worth_is_small p sell limits feasible =
     omega (arith, revenues_sum (λ j. (stay_at p j).rate * slice_index sell j) (length p.stays) each, limits.stays)
 
 -- a displacement
-pub displacement_is_small : (p : Program) (span : Span) (units cost : ℕ) → IsWithinLimits p → IsDisplacement p span units cost → cost ≤ MOST_DISPLACEMENT
+pub displacement_is_small : (p : Program) (span : Span) (units cost : ℕ) → IsWithinLimits p → IsDisplacement p span units cost → cost ≤ MOST_VALUE
 displacement_is_small p span units cost limits is =
     let best = is.optimum.reached in
     omega (arith, worth_is_small p best.0 limits best.1, best.2, is.difference)

@@ -55,6 +55,7 @@ use Rattle.bp_types.specs.declared.limits.TheConstants.{
   MOST_RATE,
   MOST_GROUP_ROOMS,
   MOST_AMOUNT,
+  MOST_VALUE,
 }
 use Rattle.bp_types.specs.Claim.{Claim, IsCertificateOf}
 use Rattle.bp_types.specs.Program.{no_stay}
@@ -89,7 +90,6 @@ use Rattle.bp_core.proofs.Prefixes.{prefixes_are_legal, at_each_position, take_t
 use Rattle.bp_core.proofs.Pushes.{last_value-push}
 use Rattle.bp_core.proofs.Sound.{IsSound, sound_at, keeps_limits}
 use Rattle.bp_core.proofs.Vectors.{position_so_far}
-use Rattle.bp_journal.specs.declared.limits.TheConstants.{MOST_DISPLACEMENT}
 use Rattle.bp_journal.specs.Limits.{IsHalfWord, IsCommandWithin, IsActWithin, IsReplyWithin, IsLineWithin}
 use Rattle.bp_journal.proofs.SmallLemmas.{price_is_small, displacement_is_small, certificate_is_small}
 
@@ -236,7 +236,7 @@ resized_within : (b : Bool) (sold : ℕ) → IsWord sold → IsReplyWithin (cond
 resized_within true sold small = small
 resized_within false sold small = tt
 
-group_within : (b : Bool) (displacement : ℕ) → displacement ≤ MOST_DISPLACEMENT → IsReplyWithin (cond b (GroupTooLow displacement) (GroupAccepted displacement))
+group_within : (b : Bool) (displacement : ℕ) → displacement ≤ MOST_VALUE → IsReplyWithin (cond b (GroupTooLow displacement) (GroupAccepted displacement))
 group_within true displacement small = small
 group_within false displacement small = small
 

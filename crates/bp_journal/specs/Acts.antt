@@ -22,7 +22,7 @@ use Rattle.bp_core.specs.declared.line.Reply.TheVariants.{
 }
 use Rattle.bp_core.specs.Lines.{is_done}
 
--- the word of a command, and its numbers
+-- the word of a command
 abbrev pub command_word : Command → Word
 command_word (Book stay) = codes "book"
 command_word (Cancel nth) = codes "cancel"
@@ -31,6 +31,7 @@ command_word (Reprice stay rate) = codes "reprice"
 command_word (Resize night rooms) = codes "resize"
 command_word (Group span rooms amount) = codes "group"
 
+-- the numbers behind the word of a command, in their order
 abbrev pub command_numbers : Command → List ℕ
 command_numbers (Book stay) = stay ∷ []
 command_numbers (Cancel nth) = nth ∷ []
@@ -39,20 +40,21 @@ command_numbers (Reprice stay rate) = stay ∷ rate ∷ []
 command_numbers (Resize night rooms) = night ∷ rooms ∷ []
 command_numbers (Group span rooms amount) = span.from ∷ span.to ∷ rooms ∷ amount ∷ []
 
--- the word of an act, and its numbers
+-- the word of an act
 abbrev pub act_word : Act → Word
 act_word (Do command) = command_word command
 act_word (Publish position) = codes "publish"
 act_word Enrol = codes "enrol"
 act_word Leave = codes "leave"
 
+-- the numbers behind the word of an act, in their order
 abbrev pub act_numbers : Act → List ℕ
 act_numbers (Do command) = command_numbers command
 act_numbers (Publish position) = position ∷ []
 act_numbers Enrol = []
 act_numbers Leave = []
 
--- the word of a reply, and its numbers
+-- the word of a reply
 abbrev pub reply_word : Reply → Word
 reply_word (Accepted vector sum) = codes "accepted"
 reply_word (TooLow vector sum rate) = codes "toolow"
@@ -67,6 +69,7 @@ reply_word (GroupTooLow displacement) = codes "toolow"
 reply_word (GroupNoRoom night) = codes "noroom"
 reply_word (Vector number) = codes "vector"
 
+-- the numbers behind the word of a reply, in their order
 abbrev pub reply_numbers : Reply → List ℕ
 reply_numbers (Accepted vector sum) = vector ∷ sum ∷ []
 reply_numbers (TooLow vector sum rate) = vector ∷ sum ∷ rate ∷ []

@@ -30,5 +30,6 @@ IsFound version place line (Whole e) = IsTrue (is_form version e) × IsEntryWith
 abbrev pub IsVersionLine : Line → Type 0
 IsVersionLine line = (version : Version) × (line ≡ version_line version)
 
+-- any line, for the first one has no number above a limit
 abbrev pub IsAnyLine : Line → Type 0
 IsAnyLine line = Unit {0}

@@ -82,5 +82,6 @@ is_journal version H = list_all (is_line_of version) H
 abbrev pub Noted : Type 0
 Noted = (version : Version) × (H : History) × IsTrue (is_journal version H)
 
+-- the lines of what is noted
 abbrev pub noted_lines : Noted → List TextLine
 noted_lines v = journal_lines v.0 v.1

@@ -25,6 +25,7 @@ pub record IsActTold (a : Act) (t : ToldAct) : Type 0 where
   pub word : act_word t.act ≡ act_word a
   pub told : IsTold IsActWithin a t.act t.great
 
+-- a reply was told
 abbrev pub IsReplyTold : Reply → ToldReply → Type 0
 IsReplyTold r t = IsTold IsReplyWithin r t.reply t.great
 

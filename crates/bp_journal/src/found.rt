@@ -1,5 +1,4 @@
 //! What is found on a line that may be an entry's.
-
 use bp_core::Entry;
 
 /// What is found on a line that may be an entry's.

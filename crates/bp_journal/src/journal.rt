@@ -31,7 +31,7 @@ impl Model for Journal {
 }
 
 impl Journal {
-    /// No lines, and room for so many, and for so many certificates among them.
+    /// No lines, and room for so many, and for so many certificates among them. The one error is want of memory.
     pub fn with_capacity(alloc: Global, lines: usize, vectors: usize) -> Result<Journal, AllocError>
         ensures { IfOk result (λ journal. journal ≡ []) }
     {

@@ -1,5 +1,4 @@
 //! Laws over journals, as the contracts of functions that do nothing.
-
 ghost use Rattle.bp_text.specs.Laws.{HasOneSpelling, IsPrefixFree};
 ghost use Rattle.bp_journal.specs.Journals.{noted_lines};
 ghost use Rattle.bp_journal.specs.Laws.{
@@ -17,8 +16,7 @@ pub fn entries_are_told()
 {}
 
 /// No two journals have one text, and none goes on behind another; no text is of both versions, and bytes are read in
-/// one
-/// way.
+/// one way.
 pub fn journals_have_one_spelling()
     ensures spelling { HasOneSpelling noted_lines }
     ensures prefix { IsPrefixFree noted_lines }

@@ -3,8 +3,5 @@
 /// A caller, a stay, a night, or an end of a span, at most.
 pub(crate) const MOST_HALF: u128 = 4_294_967_295;
 
-/// A displacement, at most, in minor units of money times the unit of the house.
-pub(crate) const MOST_DISPLACEMENT: u128 = 1_000_000_000_000_000_000_000_000_000_000;
-
 /// Any other number, at most.
 pub(crate) const MOST_NUMBER: u128 = 18_446_744_073_709_551_615;

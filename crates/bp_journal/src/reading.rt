@@ -24,7 +24,8 @@ const VECTORS: usize = MOST_PUBLICATIONS as usize;
 /// Lines of a legal history, at most: commands, vectors, and the Enrol and the Leave of each caller.
 const LINES: usize = MOST_ENTRIES as usize + VECTORS + 126;
 
-/// Reads the text of a journal, of version 1 or 2, or says which line of it is the first wrong one.
+/// Reads the text of a journal, of version 1 or 2, line by line and once, or says which line of it is the first wrong
+/// one. Whether the history is legal is not asked.
 pub fn read(alloc: Global, bytes: &[u8]) -> Result<Journal, TextError>
     ensures { IsJournalText bytes.now result }
 {

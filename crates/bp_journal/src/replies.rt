@@ -11,12 +11,13 @@ ghost use Rattle.bp_journal.specs.Acts.{
 };
 ghost use Rattle.bp_journal.specs.Told.{IsReplyBehind, IsReplyRead};
 
-use crate::limits::{MOST_DISPLACEMENT, MOST_HALF, MOST_NUMBER};
+use crate::limits::{MOST_HALF, MOST_NUMBER};
 use crate::numbers::{is_either, two};
 use crate::told::ToldReply;
 use bp_core::{Act, Reply};
 use bp_text::Words;
 use bp_types::Command;
+use bp_types::limits::MOST_VALUE;
 
 /// What stands behind the word of a Book that was accepted.
 fn accepted(words: &mut Words<'_>) -> Option<ToldReply>
@@ -97,7 +98,7 @@ fn below_sold(words: &mut Words<'_>) -> Option<ToldReply>
 fn group_accepted(words: &mut Words<'_>) -> Option<ToldReply>
     ensures { IsReplyBehind is_group_reply (codes "accepted") words.old words.new result }
 {
-    match words.number(MOST_DISPLACEMENT) {
+    match words.number(MOST_VALUE) {
         None => None,
         Some(displacement) => {
             let reply = Reply::GroupAccepted {
@@ -113,7 +114,7 @@ fn group_accepted(words: &mut Words<'_>) -> Option<ToldReply>
 fn group_too_low(words: &mut Words<'_>) -> Option<ToldReply>
     ensures { IsReplyBehind is_group_reply (codes "toolow") words.old words.new result }
 {
-    match words.number(MOST_DISPLACEMENT) {
+    match words.number(MOST_VALUE) {
         None => None,
         Some(displacement) => {
             let reply = Reply::GroupTooLow {

@@ -17,8 +17,10 @@ use bp_text::{push_number, push_numbers};
 use bp_types::Command;
 use std::alloc::AllocError;
 
+/// What stands between two words.
 const SPACE: u8 = b' ';
 
+/// What ends a line.
 const LINE_END: u8 = 10;
 
 /// Puts a word and numbers at the end of a text, each behind one space.
@@ -42,6 +44,7 @@ fn push_wide(text: &mut Vec<u8>, word: &[u8], number: u128) -> Result<(), AllocE
     Ok(())
 }
 
+/// Puts the words of a command at the end of a text, behind a space.
 fn push_command(text: &mut Vec<u8>, command: Command) -> Result<(), AllocError>
     ensures { OnOk result (text.new.items ≡
         text.old.items ++ words_behind (phrase (command_word command) (command_numbers command))) }
@@ -72,6 +75,7 @@ fn push_command(text: &mut Vec<u8>, command: Command) -> Result<(), AllocError>
     }
 }
 
+/// Puts the words of an act at the end of a text, behind a space.
 fn push_act(text: &mut Vec<u8>, act: Act) -> Result<(), AllocError>
     ensures { OnOk result (text.new.items ≡ text.old.items ++ words_behind (phrase (act_word act) (act_numbers act))) }
 {
@@ -83,6 +87,7 @@ fn push_act(text: &mut Vec<u8>, act: Act) -> Result<(), AllocError>
     }
 }
 
+/// Puts the words of a reply at the end of a text, behind a space.
 fn push_reply(text: &mut Vec<u8>, reply: Reply) -> Result<(), AllocError>
     ensures { OnOk result (text.new.items ≡
         text.old.items ++ words_behind (phrase (reply_word reply) (reply_numbers reply))) }

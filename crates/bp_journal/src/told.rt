@@ -1,5 +1,4 @@
 //! An act and a reply as their words tell them.
-
 use bp_core::{Act, Reply};
 
 /// An act as its words tell it, and whether a number of it is above its limit; then only its word counts.

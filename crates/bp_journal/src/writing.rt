@@ -13,8 +13,8 @@ use bp_edges::{Sink, WriteError};
 use bp_text::Draft;
 use std::alloc::Global;
 
-/// Writes the text of the book's history, of version 2. It holds one piece of it beside the line of one entry, and no
-/// more, however long the history is.
+/// Writes the text of the book's history, of version 2, in pieces. It holds one piece of it beside the line of one
+/// entry, and no more, however long the history is. The error is `Memory`, or `Failed` where the sink failed.
 pub fn write<K: Sink>(alloc: Global, book: &Book, out: &mut K) -> Result<(), WriteError>
     ensures writes { Writes (K.written out.old) (K.written out.new) (journal_text book.now.history) result }
     ensures failed { IsErrOf result WriteError.Failed → Rose (K.faults out.old) (K.faults out.new) }

@@ -18,7 +18,8 @@ use Rattle.bp_judge.specs.Judging.{IsFirstCause}
 use Rattle.bp_judge.specs.Searches.{last_quoted}
 use Rattle.bp_judge.specs.Trails.{GoesWith, quoted_at}
 
--- the book is legal; what is carried along goes with it, its instance at the last vector's position, and its solver where the last displacement was found
+-- the book is legal; what is carried along goes with it, its instance at the last vector's position, and its solver
+-- where the last displacement was found
 pub record IsReplay (r : Replay) : Type 0 where
   pub legal : IsLegal r.book.house r.book.history
   pub goes : GoesWith r.book.house r.book.history r.trail

@@ -46,7 +46,8 @@ moved_between h H a b = units_moved_by_all (instance_at h H a) (deltas_between h
 abbrev pub most_moved : Inn → ℕ
 most_moved h = h.limits.unit * MOST_MOVED
 
--- to bring a solver from a position to the end of a history: what is moved, where that is below the bound; else a solve from nothing
+-- to bring a solver from a position to the end of a history: what is moved, where that is below the bound; else a solve
+-- from nothing
 abbrev pub searches_from : Inn → History → ℕ → ℕ
 searches_from h H position =
     if nat_lt (moved_between h H position (length H)) (most_moved h)
@@ -62,7 +63,8 @@ searches_to_solve h H (Some position) = searches_from h H position
 abbrev pub searches_to_quote : Inn → ℕ → ℕ
 searches_to_quote h rooms = h.limits.unit * rooms + 1
 
--- what an act after a history may make: a Group for which there are rooms those for a solver and for a quote, all else none
+-- what an act after a history may make: a Group for which there are rooms those for a solver and for a quote, all else
+-- none
 abbrev pub searches_of : Inn → History → Act → ℕ
 searches_of h H (Do (Group span rooms amount)) =
     if wants_quote h H (Do (Group span rooms amount))

@@ -29,12 +29,12 @@ pub(crate) struct Replay {
     pub(crate) trail: Trail,
 }
 
-/// Judges a journal: whether it is a legal history of the house, or the first place that breaks a rule,
-/// with the first rule that it breaks.
+/// Judges a journal: whether it is a legal history of the house, or the first place that breaks a rule, with the first
+/// rule that it breaks. The one error is `Memory`, and then nothing is said of the journal.
 ///
-/// Each certificate moves into the board that it makes. Where there is no Group, no search is made; else a solver
-/// is carried from one Group to the next where few units were moved in between, and only where many were is the
-/// instance solved from nothing.
+/// Each certificate moves into the board that it makes, and is checked in time that grows with nights plus stays. Where
+/// there is no Group, no search is made; else a solver is carried from one Group to the next where few units were moved
+/// in between, and only where many were is the instance solved from nothing.
 pub fn judge<L: Ledger>(
     alloc: Global,
     house: House,
@@ -192,6 +192,7 @@ impl Replay {
         }
     }
 
+    /// Makes a Group, with a quote as of this moment where there are rooms for it.
     fn ask_group<L: Ledger>(
         &mut self,
         alloc: Global,

@@ -45,8 +45,8 @@ impl Solved {
 
     /// Goes on to a position, where few enough units are moved up to it; else the course alone goes on, some way.
     ///
-    /// One search a unit moved, and one for each time that changes are taken, are counted against a number of
-    /// rooms; so there are no more searches than these rooms have units.
+    /// One search a unit moved, and one for each time that changes are taken, are counted against a number of rooms; so
+    /// there are no more searches than these rooms have units.
     pub(crate) fn reach<L: Ledger>(&mut self, book: &Book, until: u64, steps: &mut Steps<L>) -> bool
         requires is { IsSolvedAt book.now.house book.now.history self.old }
         requires before { self.old.course.position ≤ until }

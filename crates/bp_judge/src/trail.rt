@@ -67,8 +67,7 @@ impl Trail {
         }
     }
 
-    /// A solver of the instance at the end of the history: the last one used, where it can catch up, or else a
-    /// new one.
+    /// A solver of the instance at the end of the history: the last one used, where it can catch up, or else a new one.
     fn solved_now<L: Ledger>(
         &mut self,
         alloc: Global,

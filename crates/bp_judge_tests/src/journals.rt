@@ -1,5 +1,4 @@
 //! The journals, each with what a judge says of it.
-
 use bp_core::Act::{Do, Enrol, Leave, Publish};
 use bp_core::Reply::{
     Accepted, BelowSold, Done, GroupAccepted, GroupNoRoom, GroupTooLow, NoRoom, NotBooked, TooLow,
@@ -22,6 +21,7 @@ pub(crate) type Setting = ([u64; 3], [u64; 4], Limits);
 /// A house, the lines, and the first place with a cause, if there is one.
 pub(crate) type Case = (Setting, &'static [Row], Option<(u64, Cause)>);
 
+/// Two changes before prices are stale, three commands and three vectors.
 pub(crate) const TIGHT: Setting = (
     [0, 0, 0],
     [3, 1, 1, 5],
@@ -33,6 +33,7 @@ pub(crate) const TIGHT: Setting = (
     },
 );
 
+/// The same with a room sold on each of the last two nights.
 const SOLD: Setting = (
     [0, 1, 1],
     [3, 1, 1, 5],
@@ -44,6 +45,7 @@ const SOLD: Setting = (
     },
 );
 
+/// Room for many commands, and two vectors.
 pub(crate) const WIDE: Setting = (
     [0, 0, 0],
     [3, 1, 1, 5],
@@ -55,6 +57,7 @@ pub(crate) const WIDE: Setting = (
     },
 );
 
+/// The same in hundredths, with halves among the forecasts.
 const HALVES: Setting = (
     [0, 0, 0],
     [300, 50, 100, 500],
@@ -66,6 +69,7 @@ const HALVES: Setting = (
     },
 );
 
+/// The opener's vector.
 const OPENS: Row = (
     0,
     Publish { position: 0 },
@@ -73,12 +77,16 @@ const OPENS: Row = (
     Some((250, [0, 1, 1, 1], [0, 100, 40])),
 );
 
+/// Caller 1 enrols.
 const ENROLS: Row = (1, Enrol, Done, None);
 
+/// Caller 1 leaves.
 const LEAVES: Row = (1, Leave, Done, None);
 
+/// A caller leaves that never enrolled.
 const STRANGER_LEAVES: Row = (2, Leave, Done, None);
 
+/// Caller 1 books the first stay.
 const BOOKS_0: Row = (
     1,
     Do(Book { stay: 0 }),
@@ -89,6 +97,7 @@ const BOOKS_0: Row = (
     None,
 );
 
+/// Caller 1 books a stay that the house does not have.
 const BOOKS_9: Row = (
     1,
     Do(Book { stay: 9 }),
@@ -99,6 +108,7 @@ const BOOKS_9: Row = (
     None,
 );
 
+/// The opener's vector where the house counts in hundredths.
 const OPENS_HALVES: Row = (
     0,
     Publish { position: 0 },
@@ -106,6 +116,7 @@ const OPENS_HALVES: Row = (
     Some((24500, [50, 50, 100, 150], [0, 100, 40])),
 );
 
+/// The opener's vector where rooms are sold already.
 const OPENS_SOLD: Row = (
     0,
     Publish { position: 0 },
@@ -113,6 +124,7 @@ const OPENS_SOLD: Row = (
     Some((100, [0, 0, 1, 1], [0, 110, 40])),
 );
 
+/// The journals. A comment above each says what is in it.
 pub(crate) const CASES: [Case; 29] = [
     // Two bookings and a full night, three vectors.
     (

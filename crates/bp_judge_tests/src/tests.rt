@@ -15,6 +15,7 @@ use std::test::Fail;
 /// From, to and rate of the stays; each house has three nights with 2, 1 and 2 rooms.
 const STAYS: [(u32, u32, u64); 4] = [(0, 2, 100), (1, 3, 150), (0, 1, 60), (2, 3, 40)];
 
+/// The house of a setting.
 pub(crate) fn house(alloc: Global, setting: &Setting) -> Result<House, Fail> {
     let (sold, forecasts, limits) = setting;
     let mut stays = Vec::new(alloc);
@@ -34,6 +35,7 @@ pub(crate) fn house(alloc: Global, setting: &Setting) -> Result<House, Fail> {
     }
 }
 
+/// The certificate of these numbers.
 fn certificate(alloc: Global, claimed: &Claimed) -> Result<Certificate, Memory> {
     Ok(Certificate {
         value: claimed.0,

@@ -1,5 +1,4 @@
 //! Journals that are read, judged, and written anew.
-
 ghost use Rattle.std.specs.Prelude.{◌≡◌, ◌<◌};
 
 use crate::journals::{Setting, TIGHT, WIDE};

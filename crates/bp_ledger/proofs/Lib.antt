@@ -1,3 +1,5 @@
+-- Lemmas on the tree, each page after those that it rests on.
+
 -- what a write at one node does
 pub mod NodeLemmas
 -- levels, and ways to the root

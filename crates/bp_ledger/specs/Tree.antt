@@ -1,4 +1,5 @@
--- A complete binary tree over the nights, its nodes numbered from the root (1) downward: the children of p are 2 p and 2 p + 1.
+-- A segment (interval) tree with lazy amounts: a complete binary tree over the nights, its nodes numbered from the root
+-- (1) downward, so that the children of p are 2 p and 2 p + 1.
 use Rattle.std.specs.Prelude.{◌≡◌, ℕ, zero, ◌+◌, ◌-◌, ◌*◌, ◌/◌, ◌%◌, ◌^◌, ◌<◌, ◌≤◌, suc, min, ◌≢◌, ◌⊎◌, ◌==◌, cond, List, length, map, slice_index, slice_set}
 use Rattle.std.specs.List.{range_with_len}
 

@@ -1,3 +1,4 @@
+//! The ledger: two lists for its callers, and inside a segment (interval) tree with lazy amounts.
 ghost use Rattle.std.specs.Prelude.{
   ◌≡◌,
   ℕ,
@@ -36,9 +37,10 @@ use bp_types::{Memory, Span};
 use std::alloc::Global;
 use std::marker::Model;
 
-/// More rooms of the night are sold than the number asked for: so many.
+/// More rooms of the night are sold than the number asked for.
 #[derive(Clone, Copy, Debug, PartialEq, Eq)]
 pub struct BelowSold {
+    /// The sold rooms of the night.
     pub sold: u64,
 }
 
@@ -47,19 +49,26 @@ const FEW: u32 = 8;
 
 /// The rooms of each night and how many of them are sold, never more than there are.
 ///
-/// Contracts see these two lists, one number per night, in whole rooms. What its calls name units are whole
-/// rooms too, whatever the unit of the house.
+/// Contracts see these two lists, one number per night, in whole rooms. What its calls name units are whole rooms too,
+/// whatever the unit of the house.
 ///
-/// Inside stands a segment tree over the nights, a complete binary tree whose amounts are not pushed down. A node has
-/// the least number of rooms left below it and an amount that is still to be taken from all below it, itself included.
-/// What is sold on a night is the sum of the amounts from its leaf to the root. A call costs time in the levels of the
-/// tree, not in the nights of a span.
+/// Inside stands a segment (interval) tree over the nights, a complete binary tree with lazy amounts: they stay at the
+/// nodes where they were put, and only one case of `release` pushes them down. A node has the least number of rooms
+/// left below it and an amount that is still to be taken from all below it, itself included. What is sold on a night is
+/// the sum of the amounts from its leaf to the root. A call costs time in the levels of the tree, not in the nights of
+/// a span, but for `new` and that case.
 #[derive(Debug, Drop)]
 pub struct Ledger {
+    /// The rooms of each night.
     rooms: Vec<u64>,
+    /// Of each node, the least number of rooms left below it, its own amount and those above not yet taken; of a leaf,
+    /// the rooms of its night.
     leasts: Vec<u64>,
+    /// Of each node, the amount that is still to be taken from all below it.
     amounts: Vec<u64>,
+    /// How many levels are below the root.
     levels: u32,
+    /// How many leaves there are, which is also the number of the first.
     width: usize,
 }
 
@@ -76,7 +85,8 @@ impl Model for Ledger {
 }
 
 impl Ledger {
-    /// A ledger of these rooms and sold rooms, one number per night each.
+    /// A ledger of these rooms and sold rooms, one number per night each. It takes the time of the nights, and all
+    /// memory that it will take; the one error is `Memory`.
     pub fn new(alloc: Global, rooms: &[u64], sold: &[u64]) -> Result<Ledger, Memory>
         requires one_each { length sold.now ≡ length rooms.now }
         requires within { EachIndex rooms.now (λ n. slice_index sold.now n ≤ slice_index rooms.now n) }
@@ -135,7 +145,8 @@ impl Ledger {
         }
     }
 
-    /// Sells so many rooms on each night of the span: on the nodes that cover it, at most two on each level.
+    /// Sells so many rooms on each night of the span: on the nodes that cover it, at most two on each level. It takes
+    /// the time of the levels.
     pub fn take(&mut self, span: Span, units: u64)
         requires span { IsSpanWithin (length self.old.rooms) span }
         requires left { HasLeft self.old span units }
@@ -175,7 +186,8 @@ impl Ledger {
         );
     }
 
-    /// Sets the rooms of a night, unless more of them are sold.
+    /// Sets the rooms of a night, unless more of them are sold: then nothing changes, and `BelowSold` says how many. It
+    /// takes the time of the levels.
     pub fn resize(&mut self, night: u32, rooms: u64) -> Result<(), BelowSold>
         requires { night < length self.old.rooms }
         ensures below_sold { IsErr result ↔ (rooms < slice_index self.old.sold night) }
@@ -204,7 +216,7 @@ impl Ledger {
         self.rooms[night as usize]
     }
 
-    /// The sold rooms of a night.
+    /// The sold rooms of a night: the amounts from its leaf to the root. It takes the time of the levels.
     pub fn sold(&self, night: u32) -> u64
         requires { night < length self.now.rooms }
         ensures value { result ≡ slice_index self.now.sold night }

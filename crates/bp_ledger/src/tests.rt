@@ -1,3 +1,4 @@
+//! Tests: worked cases, and a hundred thousand calls beside two plain arrays.
 ghost use Rattle.std.specs.Prelude.{◌≡◌, ℕ, ◌+◌, ◌<◌, ◌≤◌, true, length};
 ghost use Rattle.bp_types.specs.Spans.{IsSpanWithin};
 ghost use Rattle.bp_ledger.specs.Inventory.{HasSold};

@@ -157,8 +157,7 @@ fn beside_right(node: usize, units: u64) -> u64
 }
 
 /// Leaves the units at the nodes between two on their level that no other level covers. They are added without a
-/// branch,
-/// which could not be foreseen.
+/// branch, which could not be foreseen.
 fn add_between(amounts: &mut [u64], left: usize, right: usize, units: u64)
     requires ordered { left < right }
     requires within { right < length amounts.old }

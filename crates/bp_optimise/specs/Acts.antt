@@ -14,7 +14,8 @@ use Rattle.bp_optimise.specs.Vectors.{OwnVectors}
 abbrev pub commands_in : History → List Command
 commands_in es = filter_map (λ (x : Line). command_of x.entry.act) es
 
--- an actor's pass: it has seen a legal history, which has of its caller just its own calls, and each vector among them as it must be
+-- an actor's pass: it has seen a legal history, which has of its caller just its own calls, and each vector among them
+-- as it must be
 pub record IsActor (least : ℕ) (p : PassState) : Type 0 where
   pub legal : IsLegal p.house p.seen
   pub own : HasOwn p

@@ -35,6 +35,7 @@ answer_of (Published number) = Some (Logged (Vector number))
 answer_of (Superseded p changes) = Some (LaterThere p changes)
 answer_of PublicationsFull = Some NoneLeft
 
+-- somebody else's vector came first
 abbrev pub is_superseded : Round → Bool
 is_superseded (Superseded p changes) = true
 is_superseded _ = false

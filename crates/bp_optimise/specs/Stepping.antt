@@ -7,7 +7,8 @@ use Rattle.bp_optimise.specs.Works.{HaveLeft, AddsSettled}
 use Rattle.bp_optimise.specs.declared.worker.Next.{Next}
 use Rattle.bp_optimise.specs.declared.worker.Next.TheVariants.{Leaves, Rounds, NoMemory}
 
--- whatever turns the pass had before: where they were turns of histories of which it had seen as much, they are settled now
+-- whatever turns the pass had before: where they were turns of histories of which it had seen as much, they are settled
+-- now
 abbrev pub SettlesAll : ℕ → ℕ → PassState → PassState → Type 0
 SettlesAll sessions lead old new = (first : PassState) → AddsTurns first old → AddsSettled sessions lead first new
 

@@ -16,8 +16,7 @@ abbrev pub HaveLeft : History → ℕ → Type 0
 HaveLeft H sessions = left_of H sessions ≡ sessions
 
 -- where one of the sessions had not left at a turn, and so many changes stood after the last vector's position, a
--- vector stands at a place from the turn's length on,
--- or there are as many vectors as there may be
+-- vector stands at a place from the turn's length on, or there are as many vectors as there may be
 abbrev pub IsSettledTurn : Inn → ℕ → ℕ → History → ℕ → Type 0
 IsSettledTurn house sessions lead H t =
     (HaveLeft (take t H) sessions → ⊥) → lead ≤ changes_after (take t H) (last_position (take t H)) → IsFollowed H t ⊎ (vectors H ≡ house.limits.publications)
@@ -29,7 +28,8 @@ pub record AddsSettled (sessions lead : ℕ) (old new : PassState) : Type 0 wher
   pub within : All (λ t. t ≤ length new.seen) added
   pub settled : All (IsSettledTurn new.house sessions lead new.seen) added
 
--- a worker has made its rounds, and left. Want of memory apart, all sessions had left by then, and each of its turns is settled
+-- a worker has made its rounds, and left. Want of memory apart, all sessions had left by then, and each of its turns is
+-- settled
 pub record IsWork (sessions lead : ℕ) (pass left : PassState) (memory : Bool) : Type 0 where
   pub acted : HasActed lead pass left
   pub no_command : commands_in left.calls ≡ commands_in pass.calls

@@ -1,8 +1,8 @@
 //! Sessions and optimisers: who calls at a shared desk while it is open.
 //!
-//! An optimiser is a solver that follows the history of a desk from position to position, and publishes its bid
-//! prices where enough has changed. A session makes its commands in order; a worker makes rounds beside the
-//! sessions until all of them have left. Rooms are whole rooms, units those of the house.
+//! An optimiser is a solver that follows the history of a desk from position to position, and publishes its bid prices
+//! where enough has changed. A session makes its commands in order; a worker makes rounds beside the sessions until all
+//! of them have left. Rooms are whole rooms, units those of the house.
 //!
 //! A session makes its commands, and publishes where it comes upon stale prices.
 //!

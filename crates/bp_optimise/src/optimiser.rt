@@ -1,5 +1,4 @@
 //! An optimiser: a solver that follows the history of a desk, publishes and quotes.
-
 ghost use Rattle.std.specs.Prelude.{◌≡◌, ◌*◌, ◌<◌, ◌≤◌, length, IfOk, OnErr};
 ghost use Rattle.std.specs.Arc.{arc_value};
 ghost use Rattle.bp_types.specs.Claim.{IsLeastCertificate};
@@ -27,8 +26,8 @@ const BATCH: usize = 256;
 
 /// A solver that follows the history of a desk. Between calls its prices are the least ones of its instance.
 ///
-/// Contracts see the solver and the position: how many entries its instance knows. It goes with a pass where the
-/// pass has seen so many entries, and the instance is the one after them.
+/// Contracts see the solver and the position: how many entries its instance knows. It goes with a pass where the pass
+/// has seen so many entries, and the instance is the one after them.
 #[derive(Drop)]
 pub struct Optimiser {
     solver: Solver,
@@ -50,7 +49,8 @@ impl Model for Optimiser {
 }
 
 impl Optimiser {
-    /// An optimiser at position 0 with a settled solver. It takes the room that catching up needs.
+    /// An optimiser at position 0 with a settled solver. It takes the room that catching up needs. The one error is
+    /// `Memory`.
     pub fn new(alloc: Global, solver: Solver) -> Result<Optimiser, Memory>
         requires { IsSettled solver }
         ensures { IfOk result (λ o. o ≡ record { solver = solver; position = 0 }) }
@@ -72,8 +72,7 @@ impl Optimiser {
 
     /// Looks how long the history is, and catches up to there. It takes no memory.
     ///
-    /// It makes as many searches as the changes on its way move units, and one more for each of these changes, at
-    /// most.
+    /// It makes as many searches as the changes on its way move units, and one more for each of these changes, at most.
     pub fn advance<R: Wait, L: Ledger>(
         &mut self,
         rt: &R,
@@ -141,8 +140,8 @@ impl Optimiser {
         self.position = reached;
     }
 
-    /// Publishes a board with the least prices at the position that it catches up to, where at least so many
-    /// changes stand after the last vector's position.
+    /// Publishes a board with the least prices at the position that it catches up to, where at least so many changes
+    /// stand after the last vector's position.
     ///
     /// It makes no more searches than `advance`. After want of memory nothing was published.
     pub fn round<R: Wait, L: Ledger>(

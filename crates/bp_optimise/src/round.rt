@@ -1,5 +1,4 @@
 //! What a round of an optimiser did.
-
 ghost use Rattle.std.specs.Prelude.{◌≡◌, Some};
 ghost use Rattle.bp_desk.specs.Typed.{publish_answer};
 ghost use Rattle.bp_optimise.specs.Rounds.{answer_of, is_superseded, found_none_left};

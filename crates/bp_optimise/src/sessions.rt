@@ -1,5 +1,4 @@
 //! A session beside other callers: from its list of commands to its Leave.
-
 ghost use Rattle.std.specs.Prelude.{◌≡◌, ◌≢◌, ◌≤◌, ◌++◌, true, false, take, IsTrue};
 ghost use Rattle.bp_types.specs.declared.command.Command.TheVariants.{Book, Group};
 ghost use Rattle.bp_types.specs.declared.command.Command.{Command};
@@ -35,16 +34,18 @@ pub enum Stop {
 /// A session that has left, how many of its commands it made, and why no more.
 #[derive(Drop)]
 pub struct SessionEnd {
+    /// Its caller, which has left.
     pub left: Left,
+    /// How many of its commands were made: the first ones, each logged.
     pub done: u64,
+    /// Why no more were made.
     pub stop: Stop,
 }
 
-/// Makes the commands in order, and leaves.
+/// Makes the commands in order, and leaves. Whatever stops it, it leaves, and tells why it made no more.
 ///
 /// The gate is passed before each command. A Book that is behind is tried again after a round for `lead` changes; a
-/// Group is quoted by the session's own optimiser, in the unit of the house, and tried again where the quote is
-/// stale.
+/// Group is quoted by the session's own optimiser, in the unit of the house, and tried again where the quote is stale.
 pub fn session<R: Wait, G: Gate, L: Ledger>(
     rt: &R,
     alloc: Global,

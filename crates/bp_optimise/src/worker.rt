@@ -1,5 +1,4 @@
 //! A worker beside the sessions: rounds until all of them have left.
-
 ghost use Rattle.std.specs.Prelude.{◌≡◌, ◌≢◌, ◌≤◌, true, false};
 ghost use Rattle.bp_desk.specs.Calling.{HasRead};
 ghost use Rattle.bp_optimise.specs.Following.{GoesWith};
@@ -19,7 +18,9 @@ use std::sync::ledger::Ledger;
 /// A worker that has left, and whether it left for want of memory.
 #[derive(Drop)]
 pub struct WorkEnd {
+    /// Its caller, which has left.
     pub left: Left,
+    /// Whether a round found no memory.
     pub memory: bool,
 }
 
@@ -28,11 +29,14 @@ pub struct WorkEnd {
 pub(crate) enum Next {
     /// All sessions have left, and the last round was not superseded.
     Leaves,
+    /// Another round. `superseded` says whether this step's one was.
     Rounds { superseded: bool },
+    /// This step's round found no memory.
     NoMemory,
 }
 
-/// Makes rounds for `lead` changes until the callers from 1 to `sessions` have left, and leaves.
+/// Makes rounds for `lead` changes until the callers from 1 to `sessions` have left, and leaves. Where a round finds no
+/// memory it leaves at once.
 ///
 /// The gate is passed before each step. A round that was superseded is followed by one more.
 pub fn work<R: Wait, G: Gate, L: Ledger>(

@@ -2,7 +2,6 @@
 //!
 //! The test is that of a potential: hops that lead on, each nearer by its cost, show a path of each node's length, and
 //! that no hop leads nearer by more than its cost shows that none is shorter. A node at 0 needs no look at its hops.
-
 ghost use Rattle.std.specs.Prelude.{◌≡◌, ℕ, ◌+◌, ◌^◌, ◌<◌, ◌≤◌, length, slice_index, IsTrue};
 ghost use Rattle.bp_residual.specs.Network.{Priced, IsSlack, IsPriced, arcs, step_of, nodes};
 ghost use Rattle.bp_paths.specs.Mended.{GrowsFrom, LeadsOn, IsRightAt};
@@ -90,7 +89,8 @@ fn are_right(flow: &Flow, to: u32, kept: &[u128], ways: &[Hop], ranks: &[u32]) -
     true
 }
 
-/// Guesses the distances to a node from kept ways, mends the ways, and tests both.
+/// Guesses the distances to a node from kept ways, mends the ways, and tests both. Where it answers yes, the kept
+/// numbers are the distances, in minor units of money; else they are anything.
 pub(crate) fn mended(
     flow: &Flow,
     to: u32,

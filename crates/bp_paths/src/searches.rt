@@ -1,4 +1,4 @@
-//! The searches, and the scratch that they share.
+//! The searches for shortest residual paths, and the scratch that they share.
 ghost use Rattle.std.specs.Prelude.{
   ◌≡◌,
   ℕ,
@@ -88,7 +88,8 @@ impl Model for Scratch {
 }
 
 impl Scratch {
-    /// The memory for searches in a network of so many nodes and arcs.
+    /// The memory for searches in a network of so many nodes, however many arcs it has: all that any search takes. The
+    /// one error is `Memory`.
     pub fn new(alloc: Global, nodes: u32, _arcs: u32) -> Result<Scratch, Memory>
         ensures distances { IfOk result (λ k. k.distances ≡ replicate nodes far) }
         ensures path { IfOk result (λ k. k.path ≡ []) }
@@ -124,7 +125,7 @@ impl Scratch {
         })
     }
 
-    /// The distance that the last search kept for a node, in minor units of money.
+    /// The distance that the last search kept for a node, in minor units of money; None where it kept none.
     pub fn distance(&self, node: u32) -> Option<u128>
         requires { node < length self.now.distances }
         ensures { result ≡ distance_of self.now node }
@@ -174,7 +175,7 @@ impl Scratch {
         &self.ways.ranks
     }
 
-    /// The path that the last search found.
+    /// The path that the last search found, from its first hop on; empty where it found none.
     pub fn path(&self) -> &[Hop]
         ensures { result.now ≡ self.now.path }
     {

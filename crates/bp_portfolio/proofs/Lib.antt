@@ -1,3 +1,5 @@
+-- Lemmas on portfolios.
+
 -- names of files, and the lines that they stand on
 pub mod NameLemmas
 -- a list as a kind of text

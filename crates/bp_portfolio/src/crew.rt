@@ -17,10 +17,13 @@ use std::thread::{self, Threads};
 /// The desk of one hotel among several: what it is to run, until it runs, and then what came of it.
 #[derive(Drop)]
 pub struct DeskSite {
+    /// What it is to run; None once it has run.
     pub staged: Option<Staged>,
+    /// How many optimisers run beside its sessions.
     pub workers: u32,
     /// The hotel's index; the first hotel has 0.
     pub hotel: u32,
+    /// What came of it; None before it has run.
     pub outcome: Option<Result<Ran, Memory>>,
 }
 
@@ -100,7 +103,8 @@ fn runs_of(alloc: Global, sites: Vec<DeskSite>) -> Result<Vec<Ran>, Memory>
     Ok(runs)
 }
 
-/// Runs the desks of several hotels beside one another, each with so many optimisers, to their closed books.
+/// Runs the desks of several hotels beside one another, each with so many optimisers, to their closed books, which come
+/// in the hotels' order. The one error is `Memory`: of whichever desk.
 ///
 /// Each hotel's book is right for its own house, sessions and workers; nothing of another hotel stands in what is said
 /// of it. A caller of a hotel arrives at the gate with its number and `CALLERS` times the hotel's index, from 0, more.

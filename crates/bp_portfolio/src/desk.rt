@@ -44,7 +44,7 @@ impl Staged {
     }
 
     /// Runs its sessions beside so many optimisers, to the closed book. Of several hotels this is the one with the
-    /// index; the first has 0, and so has a hotel alone.
+    /// index; the first has 0, and so has a hotel alone. The one error is `Memory`.
     pub fn run<R: Wait + Threads + Sync, G: Gate>(
         self,
         rt: &R,

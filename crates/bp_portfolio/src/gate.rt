@@ -10,7 +10,9 @@ use std::sync::Wait;
 /// The gate of all hotels, as the callers of one of them pass it. The first hotel has the index 0.
 #[derive(Clone, Copy)]
 pub struct HotelGate<'a, G> {
+    /// The gate of all.
     pub gate: &'a G,
+    /// The hotel's index.
     pub hotel: u32,
 }
 

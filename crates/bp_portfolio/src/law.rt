@@ -1,5 +1,4 @@
 //! Laws over lists of hotels, as the contracts of functions that do nothing.
-
 ghost use Rattle.bp_text.specs.Laws.{HasOneSpelling, IsPrefixFree};
 ghost use Rattle.bp_portfolio.specs.Lists.{list_lines};
 ghost use Rattle.bp_portfolio.specs.Laws.{OneReading};

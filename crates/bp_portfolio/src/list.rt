@@ -87,7 +87,8 @@ fn read_lines(alloc: Global, lines: &mut Lines<'_>) -> Result<Vec<Names>, TextEr
     Ok(hotels)
 }
 
-/// Reads the list of a portfolio, or says which line of it is the first wrong one.
+/// Reads the list of a portfolio: the names of each hotel's files, the first hotel first, or which line of the text is
+/// the first wrong one, counted from 1.
 pub fn read_list(alloc: Global, bytes: &[u8]) -> Result<Vec<Names>, TextError>
     ensures { IsListText bytes.now (seen_as (λ hs. hs.items) result) }
 {

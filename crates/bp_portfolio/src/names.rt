@@ -40,15 +40,20 @@ impl Model for Names {
 /// The same, as a line has them.
 #[derive(Clone, Copy, Debug)]
 pub struct NamesOf<'a> {
+    /// The hotel file.
     pub hotel: &'a str,
+    /// The stays file.
     pub stays: &'a str,
+    /// The forecast file.
     pub forecast: &'a str,
+    /// The bookings file.
     pub bookings: &'a str,
+    /// The script.
     pub script: &'a str,
 }
 
 impl Names {
-    /// A copy of what a line has.
+    /// A copy of what a line has. The one error is want of memory.
     pub fn copied(alloc: Global, names: NamesOf<'_>) -> Result<Names, AllocError>
         ensures { IfOk result (λ n. n ≡ named names.entry) }
     {
@@ -83,7 +88,7 @@ fn has_name_bytes(word: &[u8]) -> bool
     word.iter().all(|byte| *byte >= 33 && *byte <= 126)
 }
 
-/// Whether a word is the name of a file.
+/// Whether a word is the name of a file: 1 to `MOST_NAME` printed bytes of ASCII, the first of them no dash.
 fn is_name(word: &[u8]) -> bool
     ensures { result ≡ is_name word.now }
 {
@@ -109,7 +114,7 @@ fn file_name<'a>(words: &mut Words<'a>) -> Option<&'a str>
     }
 }
 
-/// The five names of a line, where it has just these.
+/// The five names of a line; None where it has not just these.
 pub fn names_on<'a>(line: &'a [u8]) -> Option<NamesOf<'a>>
     ensures { MatchOption result (¬ IsNamesLine line.entry.now) (λ n. IsTrue (is_named (named n)) ×
         (line.entry.now ≡ names_line (named n))) }

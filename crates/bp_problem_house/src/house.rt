@@ -16,6 +16,7 @@ const GREATEST: Limits = Limits {
     unit: 1,
 };
 
+/// The rooms of each night.
 fn rooms_of(alloc: Global, problem: &Instance) -> Result<Vec<u64>, Memory>
     ensures { IfOk result (λ rooms. rooms.items ≡ problem.now.rooms) }
 {
@@ -26,6 +27,7 @@ fn rooms_of(alloc: Global, problem: &Instance) -> Result<Vec<u64>, Memory>
     Ok(rooms)
 }
 
+/// The stays, in the order of the problem.
 fn stays_of(alloc: Global, problem: &Instance) -> Result<Vec<Stay>, Memory>
     ensures { IfOk result (λ stays. stays.items ≡ problem.now.stays) }
 {
@@ -36,7 +38,8 @@ fn stays_of(alloc: Global, problem: &Instance) -> Result<Vec<Stay>, Memory>
     Ok(stays)
 }
 
-/// The house of a problem: nothing sold, whole rooms, and the greatest limits. It breaks none.
+/// The house of a problem: nothing sold, whole rooms, and the greatest limits. It breaks none. The one error is
+/// `Memory`.
 #[tactic(auto, using(crate::proofs::Fits::problem_fits))]
 pub fn house_of_problem(alloc: Global, problem: &Instance) -> Result<House, Memory>
     requires { IsProblem problem.now }

@@ -1,3 +1,5 @@
+-- Lemmas on reports, each page after those that it rests on.
+
 -- How the tallies of stays and the counts of callers grow with one place more.
 pub mod TallyLemmas
 -- The Books of a legal history: each is by one of the callers, and of a stay of the house.

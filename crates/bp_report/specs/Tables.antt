@@ -19,6 +19,7 @@ abbrev pub night_row : (night date rooms sold free price : List ℕ) → Line
 night_row night date rooms sold free price =
     right 5 night ++ codes " " ++ date ++ right 7 rooms ++ right 7 sold ++ right 7 free ++ right 12 price
 
+-- the names of these columns
 abbrev pub night_header : Line
 night_header = night_row (codes "night") (left 10 (codes "date")) (codes "rooms") (codes "sold") (codes "left") (codes "price")
 
@@ -32,6 +33,7 @@ abbrev pub stay_row : (code asked accepted too_low no_room cancelled forecast : 
 stay_row code asked accepted too_low no_room cancelled forecast =
     left 16 code ++ right 7 asked ++ right 9 accepted ++ right 7 too_low ++ right 7 no_room ++ right 10 cancelled ++ right 9 forecast
 
+-- the names of these columns
 abbrev pub stay_header : Line
 stay_header = stay_row (codes "stay") (codes "asked") (codes "accepted") (codes "toolow") (codes "noroom") (codes "cancelled") (codes "forecast")
 

@@ -6,8 +6,10 @@ ghost use Rattle.bp_report.specs.Columns.{right, left};
 use itoa::Buffer;
 use std::alloc::AllocError;
 
+/// What fills a column.
 pub(crate) const SPACE: u8 = b' ';
 
+/// What ends a line.
 pub(crate) const LINE_END: u8 = b'\n';
 
 /// Puts so many spaces at the end of a line.

@@ -54,7 +54,7 @@ fn count_entry(book: &Book, place: u64, booked: &mut [u64], tallies: &mut [Tally
     }
 }
 
-/// The tally of each stay.
+/// The tally of each stay, one per stay, in time that grows with the entries.
 pub(crate) fn tallies_of(alloc: Global, book: &Book) -> Result<Vec<Tally>, Memory>
     ensures { IfOk result (λ v. v.items ≡
         tallies_of book.now.history (length book.now.house.stays) (length book.now.history)) }

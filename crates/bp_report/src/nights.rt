@@ -11,6 +11,7 @@ use bp_edges::{Sink, WriteError};
 use bp_text::Draft;
 use std::alloc::{AllocError, Global};
 
+/// The line above the nights.
 const HEADER: &[u8] = b"night date        rooms   sold   left       price\n";
 
 /// The line of a night, with its end.

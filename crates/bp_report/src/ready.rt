@@ -41,7 +41,7 @@ impl Model for Report {
 }
 
 impl Report {
-    /// The report of a book whose nights are the hotel's, and whose stays are these.
+    /// The report of a book whose nights are the hotel's, and whose stays are these. The one error is `Memory`.
     pub fn new(alloc: Global, hotel: &Hotel, stays: Stays, book: Book) -> Result<Report, Memory>
         requires nights { length book.house.rooms ≡ length hotel.now.rooms }
         requires stays { length book.house.stays ≡ length stays.codes }
@@ -56,7 +56,7 @@ impl Report {
         })
     }
 
-    /// Writes the report as it is spelt.
+    /// Writes the report as it is spelt. The error is `Memory`, or `Failed` where the sink failed.
     pub fn write<K: Sink>(&self, alloc: Global, out: &mut K) -> Result<(), WriteError>
         ensures writes { Writes (K.written out.old) (K.written out.new) self.now result }
         ensures failed { IsErrOf result WriteError.Failed → Rose (K.faults out.old) (K.faults out.new) }

@@ -15,6 +15,7 @@ use bp_stayfile::Codes;
 use bp_text::Draft;
 use std::alloc::{AllocError, Global};
 
+/// The line above the stays.
 const HEADER: &[u8] = b"stay              asked accepted toolow noroom cancelled forecast\n";
 
 /// The line of a stay, with its end.

@@ -66,7 +66,8 @@ pub(crate) fn write_tables<K: Sink>(
     draft.hand_on(out)
 }
 
-/// Writes the report of a book as it is spelt: its nights are the hotel's, and its stays are those of the codes.
+/// Writes the report of a book as it is spelt: its nights are the hotel's, and its stays are those of the codes. Its
+/// time grows with entries, nights and stays. The error is `Memory`, or `Failed` where the sink failed.
 pub fn report<K: Sink>(
     alloc: Global,
     hotel: &Hotel,

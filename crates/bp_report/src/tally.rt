@@ -1,3 +1,4 @@
+//! The Books of a stay, counted by what became of them.
 ghost use Rattle.std.specs.Prelude.{◌≡◌, ◌-◌, ◌^◌};
 ghost use Rattle.bp_report.specs.Tallies.{no_tally, with_book, IsSmall};
 
@@ -6,10 +7,15 @@ use bp_core::Reply;
 /// The Books of a stay, and what became of them.
 #[derive(Clone, Copy)]
 pub(crate) struct Tally {
+    /// How many Books there are.
     pub asked: u64,
+    /// How many of them were accepted, whether given up later or not.
     pub accepted: u64,
+    /// How many had a rate below the prices.
     pub too_low: u64,
+    /// How many found a night with no room.
     pub no_room: u64,
+    /// How many were given up later.
     pub cancelled: u64,
 }
 

@@ -1,3 +1,4 @@
+//! Cells of a fixed width, and texts that are wider.
 use crate::cells::{push_left, push_number};
 use std::test::Fail;
 

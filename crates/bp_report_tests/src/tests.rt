@@ -19,18 +19,22 @@ use std::test::Fail;
 /// A caller, what it does, what is answered, and the certificate of a vector.
 type Row<'a> = (u32, Act, Reply, Option<Claimed<'a>>);
 
+/// Three nights with 2, 1 and 2 rooms.
 const HOTEL: &str =
     "name = \"A\"\nfirst_night = \"2025-07-01\"\nnights = 3\nrooms = 2\nstale_after = 2\n\
     [[night]]\ndate = \"2025-07-02\"\nrooms = 1\n";
 
+/// The same over the turn of a year, counted in hundredths.
 const IN_HUNDREDTHS: &str =
     "name = \"A\"\nfirst_night = \"2025-12-31\"\nnights = 3\nrooms = 2\nunit = 100\n\
     [[night]]\ndate = \"2026-01-01\"\nrooms = 1\n";
 
+/// A Book.
 fn book(stay: u32) -> Act {
     Act::Do(Command::Book { stay })
 }
 
+/// A Cancel.
 fn cancel(nth: u64) -> Act {
     Act::Do(Command::Cancel { nth })
 }

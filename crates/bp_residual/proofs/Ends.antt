@@ -36,8 +36,8 @@ use Rattle.bp_types.specs.Limits.{IsWithinLimits}
 use Rattle.bp_types.specs.Changes.{changed, with_forecast, with_rate}
 use Rattle.bp_types.proofs.RoomLemmas.{length-rooms_moved}
 use Rattle.bp_residual.specs.declared.hop.Hop.{Hop}
-use Rattle.bp_residual.specs.Network.{sell_more, sell_less, spare_more, spare_less, tail, head, step_of, arcs}
-use Rattle.bp_residual.specs.Index.{Shape, AreEnds, AreNodes, AreHopsOf, AreHopsAt, LeavesAt, end_at, tail_at, head_at}
+use Rattle.bp_residual.specs.Network.{sell_more, sell_less, spare_more, spare_less, tail, step_of, arcs}
+use Rattle.bp_residual.specs.Index.{Shape, AreEnds, AreNodes, AreHopsOf, AreHopsAt, LeavesAt, end_at, tail_at}
 
 -- programs with the same nights, stays and spans have the same ends
 pub same_ends : (p q : Program) (s : Shape) → length q.rooms ≡ length p.rooms → length q.stays ≡ length p.stays →
@@ -103,31 +103,6 @@ tail_by_ends p s arc b ends h =
         sym (ap (λ (z : Span). z.from) (place night))
     by_night false night = ap (tail p) (cond-false _ (sell_less arc) (spare_less (arc - length p.stays)) (le-ltb _ _ night)) ∙
         sym (ap (λ (z : Span). z.to) (place night))
-
--- the node that a hop reaches, by the ends of its arc
-pub head_by_ends : (p : Program) (s : Shape) (arc : ℕ) (b : Bool) → AreEnds p s → arc < arcs p →
-    head p (step_of p (record { arc = arc; forward = b })) ≡ head_at s.ends (record { arc = arc; forward = b })
-head_by_ends p s arc b ends h =
-    elim (cases_lt arc (length p.stays)) [
-      | inl stay ↦ by_stay b stay
-      | inr night ↦ by_night b night
-    ]
-  where
-    by_stay : (b : Bool) → arc < length p.stays → head p (step_of p (record { arc = arc; forward = b })) ≡ head_at s.ends (record { arc = arc; forward = b })
-    by_stay true stay = ap (head p) (cond-true _ (sell_more arc) (spare_more (arc - length p.stays)) (lt-ltb _ _ stay)) ∙
-        sym (ap (λ (z : Span). z.to) (ends.stay arc stay))
-    by_stay false stay = ap (head p) (cond-true _ (sell_less arc) (spare_less (arc - length p.stays)) (lt-ltb _ _ stay)) ∙
-        sym (ap (λ (z : Span). z.from) (ends.stay arc stay))
-
-    place : length p.stays ≤ arc → end_at s.ends arc ≡ record { from = arc - length p.stays; to = arc - length p.stays + 1 }
-    place night = let e : length p.stays + (arc - length p.stays) ≡ arc = omega arith in
-        ap (end_at s.ends) (sym e) ∙ ends.night (arc - length p.stays) (omega arith)
-
-    by_night : (b : Bool) → length p.stays ≤ arc → head p (step_of p (record { arc = arc; forward = b })) ≡ head_at s.ends (record { arc = arc; forward = b })
-    by_night true night = ap (head p) (cond-false _ (sell_more arc) (spare_more (arc - length p.stays)) (le-ltb _ _ night)) ∙
-        sym (ap (λ (z : Span). z.to) (place night))
-    by_night false night = ap (head p) (cond-false _ (sell_less arc) (spare_less (arc - length p.stays)) (le-ltb _ _ night)) ∙
-        sym (ap (λ (z : Span). z.from) (place night))
 
 pub hops_by_ends : (p : Program) (s : Shape) (v : ℕ) (hops : List Hop) → AreEnds p s → AreHopsOf s.ends v hops → AreHopsAt p v hops
 hops_by_ends p s v hops ends found =

@@ -24,7 +24,7 @@ use Rattle.bp_residual.specs.Network.{
   IsFlow,
 }
 
--- where no reduced cost is negative, revenue and dual value agree
+-- complementary slackness: where no reduced cost is negative, revenue and dual value agree
 abbrev pub SlackFlowsAreOptimal : Type 0
 SlackFlowsAreOptimal =
     (f : Flow) (u : ℕ → ℕ) (prices : List ℕ) →

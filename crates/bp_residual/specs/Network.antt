@@ -1,4 +1,8 @@
 -- The interval network: nodes 0 to N, an arc for each stay, and a free arc over each night.
+--
+-- The matrix of the linear program, a row for each night and a column for each stay, has consecutive ones in each
+-- column. Taking differences of neighbouring rows makes a minimum-cost flow of the program. Such a matrix is totally
+-- unimodular, so whole numbers suffice.
 use Rattle.std.specs.List.{range_with_len}
 use Rattle.std.specs.Prelude.{
   ◌≡◌,
@@ -91,7 +95,7 @@ IsNonNegative p u s = u (head p s) + gain p s ≤ u (tail p s) + loss p s
 abbrev pub reduced_cost : Program → (ℕ → ℕ) → Step → ℕ
 reduced_cost p u s = (u (tail p s) + loss p s) - (u (head p s) + gain p s)
 
--- no residual step has a negative reduced cost
+-- no residual step has a negative reduced cost: complementary slackness, said of a flow and its potentials
 abbrev pub IsSlack : Flow → (ℕ → ℕ) → Type 0
 IsSlack f u = (s : Step) → Admits f s 1 → IsNonNegative f.program u s
 

@@ -7,7 +7,8 @@ ghost use Rattle.bp_residual.specs.Alike.{IsAlike};
 use crate::rooms::set_rooms;
 use bp_types::{Change, Instance, Stay};
 
-/// Whether two instances have as many nights, and the same spans in the same order.
+/// Whether two instances have as many nights, and the same spans in the same order. It takes the time of a look at each
+/// stay.
 pub(crate) fn is_alike(instance: &Instance, other: &Instance) -> bool
     ensures { IsTrue result → IsAlike instance.now other.now }
 {
@@ -69,7 +70,8 @@ fn set_all_rooms(instance: &mut Instance, other: &Instance)
     }
 }
 
-/// Sets an instance to another one of the same nights and spans.
+/// Sets an instance to another one of the same nights and spans, in the time of a look at each stay and night. It takes
+/// no memory.
 pub(crate) fn set_instance(instance: &mut Instance, other: &Instance)
     requires { IsAlike instance.old other.now }
     ensures { instance.new ≡ other.now }

@@ -1,3 +1,4 @@
+//! A flow on the interval network, with a potential for each node: what is read of it, pushed over it and set in it.
 ghost use Rattle.std.specs.Prelude.{
   ◌≡◌,
   ℕ,
@@ -74,8 +75,12 @@ use std::alloc::Global;
 use std::marker::Model;
 
 /// A flow on the interval network, with a potential for each node.
+///
+/// Contracts see the instance, the units of each stay that are sold, the units of each night that are spare, and the
+/// potentials, in minor units of money.
 #[derive(Drop)]
 pub struct Flow {
+    /// The instance whose network it is on.
     instance: Instance,
     /// What the arcs carry: the units of each stay that are sold, and the units of each night that nobody takes.
     sell: Vec<u64>,
@@ -132,7 +137,8 @@ fn greatest_rate(instance: &Instance) -> u64
 }
 
 impl Flow {
-    /// The flow that carries nothing, on the instance without rooms; each price is the greatest rate.
+    /// The flow that carries nothing, on the instance without rooms; each price is the greatest rate. It takes the time
+    /// of the nodes and arcs; the one error is `Memory`.
     pub fn empty(alloc: Global, mut instance: Instance) -> Result<Flow, Memory>
         ensures { IfOk result (IsEmptyFlowOf instance) }
     {
@@ -153,7 +159,7 @@ impl Flow {
         })
     }
 
-    /// A copy, the same in every value.
+    /// A copy, the same in every value. It takes the time of the nodes and arcs; the one error is `Memory`.
     pub fn copy(&self, alloc: Global) -> Result<Flow, Memory>
         ensures { IfOk result (λ f. f ≡ self.now) }
     {
@@ -219,7 +225,7 @@ impl Flow {
         self.network.hops_at(node)
     }
 
-    /// An arc, with what it carries.
+    /// An arc by its number, with what it carries.
     pub fn arc(&self, arc: u32) -> ArcView
         requires { arc < arcs self.now.flow.program }
         ensures tail { result.tail ≡ tail self.now.flow.program (forward_step self.now.flow.program arc) }
@@ -258,7 +264,7 @@ impl Flow {
         i128::from(self.level(node))
     }
 
-    /// The potential of a node as a number that is never negative.
+    /// The potential of a node as a number that is never negative, in minor units of money.
     pub fn level(&self, node: u32) -> u64
         requires { node ≤ length self.now.flow.program.rooms }
         ensures { result ≡ slice_index self.now.potentials node }
@@ -266,7 +272,7 @@ impl Flow {
         self.potentials[node as usize]
     }
 
-    /// A stay by its number.
+    /// A stay by its number, from 0.
     pub fn stay(&self, stay: u32) -> Stay
         requires { stay < length self.now.flow.program.stays }
         ensures value { result ≡ stay_at self.now.flow.program stay }
@@ -283,7 +289,7 @@ impl Flow {
         self.sell[stay as usize]
     }
 
-    /// The spare rooms of a night.
+    /// The spare rooms of a night, in units.
     pub fn spare(&self, night: u32) -> u64
         requires { night < length self.now.flow.program.rooms }
         ensures { result ≡ slice_index self.now.flow.spare night }
@@ -296,7 +302,14 @@ impl Flow {
         requires { hop.arc < arcs self.now.flow.program }
         ensures { result ≡ tail self.now.flow.program (step_of self.now.flow.program hop) }
     {
-        self.network.tail(hop)
+        let stays = self.instance.stays();
+        if hop.arc < stays {
+            let span = self.instance.stay(hop.arc).span;
+            if hop.forward { span.from } else { span.to }
+        } else {
+            let night = hop.arc - stays;
+            if hop.forward { night } else { night + 1 }
+        }
     }
 
     /// The node that the hop reaches.
@@ -304,9 +317,19 @@ impl Flow {
         requires { hop.arc < arcs self.now.flow.program }
         ensures { result ≡ head self.now.flow.program (step_of self.now.flow.program hop) }
     {
-        self.network.head(hop)
+        let stays = self.instance.stays();
+        if hop.arc < stays {
+            let span = self.instance.stay(hop.arc).span;
+            if hop.forward { span.to } else { span.from }
+        } else {
+            let night = hop.arc - stays;
+            if hop.forward { night + 1 } else { night }
+        }
     }
 
+    /// The reduced cost of a stay's hop that has room for a unit. It is the distance of two numbers either way, so that
+    /// no branch is taken for it: whether there is room is as good as drawn by lot, and a wrong guess of the processor
+    /// takes longer than all the rest.
     fn stay_cost(&self, stay: u32, forward: bool) -> Option<u128>
         requires in_range { stay < length self.now.flow.program.stays }
         requires slack { IsSlack self.now.flow (slice_index self.now.potentials) }
@@ -315,24 +338,21 @@ impl Flow {
     {
         let terms = self.stay(stay);
         let sold = self.sold(stay);
-        let rate = u128::from(terms.rate);
-        let from = u128::from(self.level(terms.span.from));
-        let to = u128::from(self.level(terms.span.to));
+        let left = u128::from(self.level(terms.span.from));
+        let right = u128::from(self.level(terms.span.to)) + u128::from(terms.rate);
+        let cost = left.max(right) - left.min(right);
         if forward {
             if sold < terms.forecast {
-                Some(from - (to + rate))
+                Some(cost)
             } else {
                 None
             }
         } else {
-            if sold > 0 {
-                Some(to + rate - from)
-            } else {
-                None
-            }
+            if sold > 0 { Some(cost) } else { None }
         }
     }
 
+    /// The reduced cost of a night's hop that has room for a unit; None where it has none.
     fn night_cost(&self, night: u32, forward: bool) -> Option<u128>
         requires in_range { night < length self.now.flow.program.rooms }
         requires slack { IsSlack self.now.flow (slice_index self.now.potentials) }
@@ -410,7 +430,8 @@ impl Flow {
         }
     }
 
-    /// The reduced cost of a hop that has room for a unit; None where it has none.
+    /// The reduced cost of a hop that has room for a unit, in minor units of money: its cost, plus the potential of its
+    /// tail, minus that of its head. None where it has no room.
     pub fn reduced_cost(&self, hop: Hop) -> Option<u128>
         requires in_range { hop.arc < arcs self.now.flow.program }
         requires slack { IsSlack self.now.flow (slice_index self.now.potentials) }
@@ -425,6 +446,7 @@ impl Flow {
         }
     }
 
+    /// Sends units over a stay's hop.
     fn push_stay(&mut self, stay: u32, forward: bool, units: u64)
         requires admits { Admits self.old.flow (if forward then sell_more stay else sell_less stay) units }
         ensures flow { self.new.flow ≡ pushed self.old.flow (if forward then sell_more stay else sell_less stay) units }
@@ -438,6 +460,7 @@ impl Flow {
         }
     }
 
+    /// Sends units over a night's hop.
     fn push_night(&mut self, night: u32, forward: bool, units: u64)
         requires admits { Admits self.old.flow (if forward then spare_more night else spare_less night) units }
         requires fits { FitsSpare self.old.flow (if forward then spare_more night else spare_less night) units }
@@ -453,7 +476,8 @@ impl Flow {
         }
     }
 
-    /// Raises each potential by its number, less what the last node gets; each price stays within its limits.
+    /// Raises each potential by its number, less what the last node gets; each price stays within its limits. `by` has
+    /// one number per node, in minor units of money. It takes the time of the nodes.
     pub fn lift(&mut self, by: &[u128])
         requires one_each { length by.now ≡ length self.old.flow.program.rooms + 1 }
         requires small { All (λ x. x ≤ 10 ^ 30) by.now }
@@ -478,7 +502,7 @@ impl Flow {
         }
     }
 
-    /// Sends units along a path.
+    /// Sends units along a path, each of whose hops has room for them. It takes the time of the hops.
     pub fn push(&mut self, path: &[Hop], units: u64)
         requires once { NamesArcsOnce path.now }
         requires takes { All (Takes self.old.flow units) path.now }
@@ -528,7 +552,7 @@ impl Flow {
         set_rooms(&mut self.instance, night, rooms);
     }
 
-    /// Adds (`up`) or takes away so many units on each night of a span.
+    /// Adds (`up`) or takes away so many units on each night of a span. What the flow carries stays.
     pub fn move_rooms(&mut self, span: Span, up: bool, units: u64)
         requires { Fits self.old.flow.program (Rooms span up units) }
         ensures { self.new ≡ with_program self.old (changed self.old.flow.program (Rooms span up units)) }
@@ -565,21 +589,21 @@ impl Flow {
         self.sell[place] = units;
     }
 
-    /// The revenue of the allocation, in minor units of money times the unit.
+    /// The revenue of the allocation, in minor units of money times the unit. It takes the time of the stays.
     pub fn worth(&self) -> u128
         ensures { result ≡ worth self.now.flow.program self.now.flow.sell }
     {
         self.instance.worth(&self.sell)
     }
 
-    /// The price of each night, in minor units of money.
+    /// The price of each night, in minor units of money: one number per night. The one error is `Memory`.
     pub fn prices(&self, alloc: Global) -> Result<Vec<u64>, Memory>
         ensures { IfOk result (λ v. v.items ≡ prices_of self.now) }
     {
         prices(alloc, &self.potentials)
     }
 
-    /// The allocation, the prices, and the revenue as the value of both.
+    /// The allocation, the prices, and the revenue as the value of both. The one error is `Memory`.
     pub fn certificate(&self, alloc: Global) -> Result<Certificate, Memory>
         ensures { IfOk result (λ c. (c.value ≡ worth self.now.flow.program self.now.flow.sell) ×
             (c.sell ≡ self.now.flow.sell) × (c.prices ≡ prices_of self.now)) }

@@ -1,8 +1,7 @@
 //! Laws over flows, potentials and residual paths, as the contracts of functions that do nothing.
 //!
-//! Sources: complementary slackness and successive shortest paths are standard results on linear programs
-//! and minimum-cost flows.
-
+//! Sources: complementary slackness and successive shortest paths are standard results on linear programs and
+//! minimum-cost flows.
 ghost use Rattle.bp_residual.specs.Laws.{
   SlackFlowsAreOptimal,
   OptimalPricesAreSlack,
@@ -19,8 +18,8 @@ ghost use Rattle.bp_residual.specs.Laws.{
   LeastPricesAreWithinRates,
 };
 
-/// Complementary slackness, one way: where no residual step has a negative reduced cost, the allocation of
-/// a balanced flow is worth the bound of the prices.
+/// Complementary slackness, one way: where no residual step has a negative reduced cost, the allocation of a balanced
+/// flow is worth the bound of the prices.
 pub fn slack_flows_are_optimal()
     ensures { SlackFlowsAreOptimal }
 {}
@@ -35,7 +34,8 @@ pub fn push_keeps_slack()
     ensures { PushKeepsSlack }
 {}
 
-/// A lift by numbers that grow over no residual step by more than its reduced cost leaves none negative.
+/// A lift by numbers that grow over no residual step by more than its reduced cost leaves none negative. Distances by
+/// reduced cost are such numbers.
 pub fn lift_keeps_slack()
     ensures { LiftKeepsSlack }
 {}
@@ -60,7 +60,8 @@ pub fn shortest_paths_become_tight()
     ensures { ShortestPathsBecomeTight }
 {}
 
-/// A push along steps of reduced cost 0 leaves none negative, and lessens the imbalance by its units.
+/// A push along steps of reduced cost 0 leaves none negative, and lessens the imbalance by its units: one augmentation
+/// of successive shortest paths.
 pub fn push_moves_imbalance()
     ensures { PushMovesImbalance }
 {}

@@ -5,6 +5,9 @@
 //! rooms that nobody sleeps in. Stays are arcs 0 to M - 1, and the free arc of night n is arc M + n.
 //! Potentials fall by the price of each night, and end at 0.
 //!
+//! Taking differences of the rows of neighbouring nights makes this minimum-cost flow of the linear program, since its
+//! matrix has consecutive ones in each column: a standard reduction, which also shows why whole numbers suffice.
+//!
 //! The flow that sells nothing, under prices at which no stay is worth more than its nights.
 //!
 //! ```

@@ -1,10 +1,11 @@
+//! The rooms of an instance, set night by night.
 ghost use Rattle.std.specs.Prelude.{◌≡◌, ℕ, ◌≤◌, ◌<◌, length, slice_index, slice_set};
 ghost use Rattle.bp_types.specs.declared.limits.TheConstants.{MOST_UNITS};
 ghost use Rattle.bp_types.specs.Limits.{IsWithinLimits};
 
 use bp_types::{Change, Instance, Span};
 
-/// Sets the rooms of one night.
+/// Sets the rooms of one night, in units.
 pub(crate) fn set_rooms(instance: &mut Instance, night: u32, rooms: u64)
     requires night { night < length instance.old.rooms }
     requires rooms { rooms ≤ MOST_UNITS }

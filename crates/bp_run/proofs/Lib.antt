@@ -1,3 +1,5 @@
+-- Lemmas on calls of the program, each page after those that it rests on.
+
 -- how the files of several hotels follow one another
 pub mod PortfolioLemmas
 -- from the files of a command to the end of a call
@@ -8,5 +10,3 @@ pub mod CompleteLemmas
 pub mod Replays
 -- what each kind of file and each command owes to completeness
 pub mod SoundCommands
-
--- from the files of a line of scenarios to its end, in one thread

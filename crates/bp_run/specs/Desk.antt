@@ -1,7 +1,7 @@
 -- `desk`: the sessions of a script and optimisers beside them on one desk, down to the text of its one history.
 --
--- What is said of the closed desk is `IsRightRun` of the crate `bp_desk_run`; what a history is that such a run may leave,
--- and when it is complete, closed or cut, is said in `DeskRun` of that crate, in the words of the desk alone.
+-- What is said of the closed desk is `IsRightRun` of the crate `bp_desk_run`; what a history is that such a run may
+-- leave, and when it is complete, closed or cut, is said in `DeskRun` of that crate, in the words of the desk alone.
 use Rattle.std.specs.Prelude.{◌≡◌, ℕ, ◌+◌, ◌/◌, ◌≤◌, true, false, if◌then◌else◌, List}
 use Rattle.bp_types.specs.House.{Inn}
 use Rattle.bp_types.specs.declared.command.Command.{Command}

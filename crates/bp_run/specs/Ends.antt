@@ -92,8 +92,8 @@ pub record HoldsAll (words : List Word) (held : Option Files) : Type 0 where
   pub told : held ≡ Some files
   pub each : (task : Task) → Asks words task → HoldsFiles files (command_of task).plan
 
--- the words are a plain line, and the shelf tells that it holds every file that they come to, short
--- enough and accepted; what the files give is served
+-- the words are a plain line, and the shelf tells that it holds every file that they come to, short enough and
+-- accepted; what the files give is served
 pub record IsComplete (words : List Word) (held : Option Files) : Type 0 where
   pub plain : AreServed words
   pub all : Files
@@ -122,9 +122,9 @@ ServesTask task shelf out number = (words : List Word) → Asks words task → S
 abbrev pub ServesNoTask : Fetches → Puts → ℕ → Type 0
 ServesNoTask shelf out number = (words : List Word) → (AreServed words → ⊥) → Serves words shelf out number
 
--- what a call says of its words and the number of its status over a shelf and a sink that tell nothing of their content,
--- as real files and standard output do: there are counts, before the call and after it, and a newest fetch with which it
--- serves the words
+-- what a call says of its words and the number of its status over a shelf and a sink that tell nothing of their
+-- content, as real files and standard output do: there are counts, before the call and after it, and a newest fetch
+-- with which it serves the words
 pub record ServesUnseen (words : List Word) (number : ℕ) : Type 0 where
   pub first_faults : ℕ
   pub faults : ℕ

@@ -22,8 +22,8 @@ use Rattle.bp_run.specs.declared.commands.group.GroupAnswer.TheVariants.{Quoted,
 abbrev pub span_of : ℕ → ℕ → Span
 span_of from to = record { from = from; to = to }
 
--- what is answered to a group of so many rooms: that its span is none of the problem's, the first night that lacks
--- the rooms, or its displacement with certificates of both optima
+-- what is answered to a group of so many rooms: that its span is none of the problem's, the first night that lacks the
+-- rooms, or its displacement with certificates of both optima
 abbrev pub IsGroupAnswer : Program → Span → ℕ → GroupAnswer → Type 0
 IsGroupAnswer p span rooms BadSpan = IsSpanWithin (length p.rooms) span → ⊥
 IsGroupAnswer p span rooms (NoRoom night) = IsSpanWithin (length p.rooms) span × (first_short (slice_index p.rooms) span rooms ≡ Some night)

@@ -23,8 +23,8 @@ pub record Told : Type 0 where
   pub inn : OpenHotel
   pub lines : History
 
--- the lines are a legal history of the house, and the text is its report; or this place is the first that breaks a rule,
--- and this the first rule that it breaks
+-- the lines are a legal history of the house, and the text is its report; or this place is the first that breaks a
+-- rule, and this the first rule that it breaks
 abbrev pub IsReportAnswer : Told → ReportAnswer → Type 0
 IsReportAnswer g (Tables text) = IsLegal g.inn.house g.lines × IsReport g.inn.hotel g.inn.stays.codes g.inn.house g.lines text
 IsReportAnswer g (Illegal place rule) = IsFirstIllegal g.inn.house g.lines place rule

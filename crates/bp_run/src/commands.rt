@@ -1,4 +1,5 @@
-//! The commands, one file each: its answer, and the status and the text of the answer.
+//! The commands, one file each: its answer, and the status and the text of the answer. A command stops at the first file
+//! that gives no value; its text fails for want of memory alone, or where the sink does.
 ghost use Rattle.std.specs.Prelude.{◌≡◌, IfOk};
 ghost use Rattle.bp_cli.specs.Asked.{asked};
 ghost use Rattle.bp_run.specs.Served.{IsPlainTask};
@@ -49,7 +50,7 @@ pub fn hotel_files<'a>(
     }
 }
 
-// What `replay` answers to its five names.
+/// What `replay` answers to its five names.
 fn replayed<S: Shelf>(
     alloc: Global,
     shelf: &mut S,
@@ -66,7 +67,7 @@ fn replayed<S: Shelf>(
     judge::replay(alloc, shelf, &hotel, journal.text())
 }
 
-// What `report` answers to its five names.
+/// What `report` answers to its five names.
 fn reported<S: Shelf>(
     alloc: Global,
     shelf: &mut S,

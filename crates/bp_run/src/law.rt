@@ -1,5 +1,4 @@
 //! Laws over what commands answer, as the contracts of functions that do nothing.
-
 ghost use Rattle.bp_cli.specs.Words.{texts};
 ghost use Rattle.bp_inputs.specs.Fetches.{over};
 ghost use Rattle.bp_run.specs.Laws.{IsNotPassedOver, RunsAreLegal};

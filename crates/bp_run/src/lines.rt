@@ -5,6 +5,7 @@ ghost use Rattle.bp_run.specs.Lines.{said, end_status, usage};
 use crate::{End, Status, commands};
 use std::alloc::{AllocError, Global};
 
+/// The usage text: a line for each command.
 const USAGE: &str = "usage:
 bidprice check PROBLEM CERTIFICATE
 bidprice solve PROBLEM

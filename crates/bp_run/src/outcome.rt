@@ -32,26 +32,33 @@ use std::thread::Threads;
 /// The names and the number of workers of a desk's line.
 #[derive(Clone, Copy, Debug)]
 pub struct DeskLine<'a> {
+    /// The names of the hotel's four files.
     pub hotel: HotelFiles<'a>,
+    /// The name of the script.
     pub script: &'a str,
+    /// How many optimisers run beside the sessions.
     pub workers: u32,
 }
 
 /// The names of a line of scenarios.
 #[derive(Clone, Copy, Debug)]
 pub struct ScenariosLine<'a> {
+    /// The name of the problem.
     pub problem: &'a str,
+    /// The name of the file with their changes.
     pub changes: &'a str,
 }
 
 /// The name of the list and the number of workers of a portfolio's line.
 #[derive(Clone, Copy, Debug)]
 pub struct PortfolioLine<'a> {
+    /// The name of the list.
     pub list: &'a str,
+    /// How many optimisers run beside the sessions of each hotel.
     pub workers: u32,
 }
 
-// How a call ends that was stopped at a file.
+/// How a call ends that was stopped at a file.
 fn stopped(stop: Stop) -> Result<End, Memory>
     ensures { HasStopped stop result }
 {
@@ -62,7 +69,7 @@ fn stopped(stop: Stop) -> Result<End, Memory>
     }
 }
 
-/// How a task that one thread can do ends over the shelf, before anything is written.
+/// How a task that one thread can do ends over the shelf, before anything is written. The one error is `Memory`.
 pub fn end_of<S: Shelf>(alloc: Global, task: &Task<'_>, shelf: &mut S) -> Result<End, Memory>
     requires plain { IsPlainTask (asked task.now) }
     requires numbers { HasDemoNumbers (asked task.now) }
@@ -78,7 +85,7 @@ pub fn end_of<S: Shelf>(alloc: Global, task: &Task<'_>, shelf: &mut S) -> Result
     }
 }
 
-// What a desk's line names, where the task is that of one.
+/// What a desk's line names, where the task is that of one.
 fn desk_of<'a>(task: &Task<'a>) -> Option<DeskLine<'a>>
     ensures { MatchOption result (IsDesk (asked task.now) → ⊥) (IsDeskOf (asked task.now)) }
 {
@@ -99,7 +106,7 @@ fn desk_of<'a>(task: &Task<'a>) -> Option<DeskLine<'a>>
     }
 }
 
-// What a line of scenarios names, where the task is that of one.
+/// What a line of scenarios names, where the task is that of one.
 fn scenarios_of<'a>(task: &Task<'a>) -> Option<ScenariosLine<'a>>
     ensures { MatchOption result (AreScenarios (asked task.now) → ⊥) (AreScenariosOf (asked task.now)) }
 {
@@ -112,7 +119,7 @@ fn scenarios_of<'a>(task: &Task<'a>) -> Option<ScenariosLine<'a>>
     }
 }
 
-// What a portfolio's line names, where the task is that of one.
+/// What a portfolio's line names, where the task is that of one.
 fn portfolio_of<'a>(task: &Task<'a>) -> Option<PortfolioLine<'a>>
     ensures { MatchOption result (IsPortfolio (asked task.now) → ⊥) (IsPortfolioOf (asked task.now)) }
 {
@@ -125,7 +132,7 @@ fn portfolio_of<'a>(task: &Task<'a>) -> Option<PortfolioLine<'a>>
     }
 }
 
-// How the words of a line end that may start threads and is no desk's and none of scenarios.
+/// How the words of a line end that may start threads and is no desk's and none of scenarios.
 #[tactic(auto, using(crate::proofs::EndLemmas::not_threads_task, crate::proofs::EndLemmas::few_workers_each, crate::proofs::EndLemmas::ran_all_has, crate::proofs::EndLemmas::ran_all_stopped, crate::proofs::EndLemmas::stopped_has, crate::proofs::EndLemmas::stopped_unfailing, crate::proofs::EndLemmas::answer_is_no_fault))]
 fn end_of_portfolio<R: Wait + Threads + Sync, S: Shelf, G: Gate>(
     rt: &R,
@@ -154,7 +161,7 @@ fn end_of_portfolio<R: Wait + Threads + Sync, S: Shelf, G: Gate>(
     }
 }
 
-// How the words of a line end that may start threads and is no desk's.
+/// How the words of a line end that may start threads and is no desk's.
 #[tactic(auto, using(crate::proofs::EndLemmas::foreseen_has, crate::proofs::EndLemmas::foreseen_stopped, crate::proofs::EndLemmas::stopped_has, crate::proofs::EndLemmas::stopped_unfailing, crate::proofs::EndLemmas::answer_is_no_fault))]
 fn end_beside_desk<R: Wait + Threads + Sync, S: Shelf, G: Gate>(
     rt: &R,
@@ -181,7 +188,8 @@ fn end_beside_desk<R: Wait + Threads + Sync, S: Shelf, G: Gate>(
     }
 }
 
-/// How the words of a line that may start threads end over the shelf, before anything is written.
+/// How the words of a line that may start threads end over the shelf, before anything is written. The one error is
+/// `Memory`.
 #[tactic(auto, using(crate::proofs::EndLemmas::few_workers, crate::proofs::EndLemmas::ran_has, crate::proofs::EndLemmas::ran_stopped, crate::proofs::EndLemmas::stopped_has, crate::proofs::EndLemmas::stopped_unfailing, crate::proofs::EndLemmas::answer_is_no_fault))]
 pub fn end_with_threads<R: Wait + Threads + Sync, S: Shelf, G: Gate>(
     rt: &R,

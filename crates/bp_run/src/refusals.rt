@@ -8,6 +8,7 @@ use bp_stayfile::TableRefusal;
 use bp_text::TextError;
 use std::alloc::{AllocError, Global};
 
+/// The line of a refused text of lines.
 fn text_line(alloc: Global, file: u64, error: TextError) -> Result<String, AllocError>
     ensures { IfOk result (λ text. string_bytes text ≡ text_refusal file error) }
 {
@@ -20,6 +21,7 @@ fn text_line(alloc: Global, file: u64, error: TextError) -> Result<String, Alloc
     }
 }
 
+/// The line of a refused hotel file.
 fn hotel_line(alloc: Global, file: u64, refusal: HotelRefusal) -> Result<String, AllocError>
     ensures { IfOk result (λ text. string_bytes text ≡ hotel_refusal file refusal) }
 {
@@ -43,6 +45,7 @@ fn hotel_line(alloc: Global, file: u64, refusal: HotelRefusal) -> Result<String,
     }
 }
 
+/// The line of a refused table.
 fn table_line(alloc: Global, file: u64, refusal: TableRefusal) -> Result<String, AllocError>
     ensures { IfOk result (λ text. string_bytes text ≡ table_refusal file refusal) }
 {
@@ -66,7 +69,8 @@ fn table_line(alloc: Global, file: u64, refusal: TableRefusal) -> Result<String,
     }
 }
 
-/// The line of a refusal.
+/// The line of a refusal, with its end: the number of the file, counted from 1, a word for the cause, and where in the
+/// file it is.
 pub fn refused_line(alloc: Global, file: u64, cause: Cause) -> Result<String, AllocError>
     ensures { IfOk result (λ text. string_bytes text ≡ refusal_line file cause) }
 {

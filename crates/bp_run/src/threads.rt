@@ -3,7 +3,7 @@ ghost use Rattle.std.specs.Prelude.{◌↔◌, IsTrue};
 ghost use Rattle.bp_cli.specs.Words.{texts};
 ghost use Rattle.bp_run.specs.Served.{NamesThreads, MayStartThreads};
 
-// Whether this is a command that may start threads.
+/// Whether this is a command that may start threads.
 fn names_threads(command: &str) -> bool
     ensures { IsTrue result ↔ NamesThreads command.now }
 {

@@ -75,7 +75,7 @@ pub fn run_plain<S: Shelf, K: Sink>(
 
 /// Does the line of these words, which stand behind the program's name, and gives the number of its status.
 ///
-/// Every text goes to the sink, the usage text and refusals too. The gate is passed by the actors of a desk.
+/// Every text goes to the sink, the usage text and refusals too. The gate is passed by the callers of a desk.
 pub fn run<R: Wait + Threads + Sync, S: Shelf, K: Sink, G: Gate>(
     rt: &R,
     alloc: Global,

@@ -14,6 +14,7 @@ type Changed = (
     &'static str,
 );
 
+/// The changed journals. A comment above some says what is wrong.
 fn changed() -> &'static [Changed] {
     &[
         // A vector that certifies nothing at its position, and a booking of a full night.

@@ -88,6 +88,7 @@ pub(crate) fn headers() -> &'static [(&'static str, &'static str)] {
 /// A line in which X is a file of these bytes, and its refusal.
 pub(crate) type Damage = (&'static str, &'static [u8], &'static str);
 
+/// The damaged files. A comment above some says what is wrong.
 pub(crate) fn damages() -> &'static [Damage] {
     &[
         // Bytes that a packed file begins with.

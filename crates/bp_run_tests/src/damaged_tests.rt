@@ -97,7 +97,7 @@ fn each_fetch_of_a_desk_fails_in_turn(rt: HostRuntime) -> Result<(), Fail> {
     Ok(())
 }
 
-// Up to the first put that the run does not make.
+/// Up to the first put that the run does not make.
 #[test]
 fn each_write_of_a_desk_fails_in_turn(rt: HostRuntime) -> Result<(), Fail> {
     let alloc = rt.alloc();

@@ -1,5 +1,4 @@
 //! Desks, and the journals that they write.
-
 use crate::files::{ONE_CALL, THREE_CALLS};
 
 /// The files of a hotel and a script, the status, and the journal.
@@ -75,6 +74,7 @@ prices 60 40 40
 end
 ";
 
+/// Where the house allows one vector: the third booking is not made.
 const ONE_VECTOR: &str = "journal 2
 0 0 publish 0 vector 0
 value 250
@@ -87,6 +87,7 @@ prices 0 100 40
 end
 ";
 
+/// Where no vector is left for the end.
 const NO_CLOSING_VECTOR: &str = "journal 2
 0 0 publish 0 vector 0
 value 250
@@ -100,6 +101,7 @@ prices 0 100 40
 end
 ";
 
+/// The vector of the opener, and nothing else.
 const NOTHING: &str = "journal 2
 0 0 publish 0 vector 0
 value 250
@@ -108,6 +110,7 @@ prices 0 100 40
 end
 ";
 
+/// A booking that is given up twice, and one that there is not.
 const CANCELS: &str = "journal 2
 0 0 publish 0 vector 0
 value 250
@@ -126,6 +129,7 @@ prices 0 100 40
 end
 ";
 
+/// Fewer rooms than are sold.
 const RESIZE: &str = "journal 2
 0 0 publish 0 vector 0
 value 100
@@ -137,6 +141,7 @@ prices 0 110 40
 end
 ";
 
+/// A group that pays too little, one that ties, and one for which there is no room.
 const GROUPS: &str = "journal 2
 0 0 publish 0 vector 0
 value 250
@@ -154,6 +159,7 @@ prices 0 110 40
 end
 ";
 
+/// A booking where the house counts in hundredths.
 const HALVES: &str = "journal 2
 0 0 publish 0 vector 0
 value 24500
@@ -169,6 +175,7 @@ prices 0 100 40
 end
 ";
 
+/// The three groups where the house counts in hundredths.
 const GROUPS_IN_HUNDREDTHS: &str = "journal 2
 0 0 publish 0 vector 0
 value 24500
@@ -186,6 +193,7 @@ prices 0 110 40
 end
 ";
 
+/// A booking after its stay has a lower rate.
 pub(crate) const REPRICE: &str = "journal 2
 0 0 publish 0 vector 0
 value 250
@@ -203,6 +211,7 @@ prices 0 110 40
 end
 ";
 
+/// One session beside two workers.
 const BESIDE_TWO_WORKERS: &str = "journal 2
 0 0 publish 0 vector 0
 value 250

@@ -40,8 +40,10 @@ fn full_with_two_workers(rt: HostRuntime) -> Result<(), Fail> {
     Ok(())
 }
 
+/// What the one guest is told who gets the last room.
 const ACCEPTED: &str = "enrol done\nbook 0 accepted 0 50\nleave done\n";
 
+/// What the other one is told.
 const REFUSED: &str = "enrol done\nbook 0 noroom 0 50 0\nleave done\n";
 
 #[test]
@@ -65,7 +67,7 @@ fn the_last_room(rt: HostRuntime) -> Result<(), Fail> {
     Ok(())
 }
 
-// A worker makes a round between two calls of a session, so the actors run beside one another.
+/// A worker makes a round between two calls of a session, so the actors run beside one another.
 #[test]
 fn an_optimiser_beside_a_session(rt: HostRuntime) -> Result<(), Fail> {
     let alloc = rt.alloc();

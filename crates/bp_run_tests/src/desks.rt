@@ -1,5 +1,4 @@
 //! Desks that run over files in memory, and the judge of their journals.
-
 use crate::desk_files::{HEADER, SECOND_NIGHT, THREE_NIGHTS, scripts, settings, texts};
 use crate::files::files;
 use crate::tests::{held, words_of};

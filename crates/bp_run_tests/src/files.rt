@@ -54,6 +54,7 @@ date = \"2025-07-02\"
 rooms = 1
 ";
 
+/// Its stays file.
 const STAYS: &str = "code,arrival,nights,rate
 P0,2025-07-01,2,100
 P1,2025-07-02,2,150
@@ -61,6 +62,7 @@ P2,2025-07-01,1,60
 P3,2025-07-03,1,40
 ";
 
+/// Its forecast file.
 const FORECAST: &str = "code,count
 P0,3
 P1,1

@@ -1,5 +1,4 @@
 //! Gates that hold callers until others have arrived.
-
 use bp_edges::Gate;
 use std::sync::Wait;
 use std::sync::atomic::AtomicU64;
@@ -18,6 +17,7 @@ pub(crate) struct Arrivals {
 }
 
 impl Arrivals {
+    /// Nobody has arrived.
     pub(crate) fn new() -> Arrivals {
         Arrivals {
             first: AtomicU64::new(0),
@@ -31,6 +31,7 @@ impl Arrivals {
         self.gave_up.load(SeqCst) > 0
     }
 
+    /// Notes that a caller has arrived for the nth time.
     fn count(&self, caller: u32, nth: u64) {
         match caller {
             1 => self.first.store(nth, SeqCst),

@@ -1,7 +1,7 @@
 //! Lines of words, and what each gives over the shared files.
-
 use crate::files::{CERTIFICATE, ONE_CALL, THREE_CALLS};
 
+/// The usage text.
 const USAGE: &str = "usage:
 bidprice check PROBLEM CERTIFICATE
 bidprice solve PROBLEM

@@ -9,6 +9,7 @@ use std::alloc::{AllocError, Global};
 use std::sync::Wait;
 use std::thread::Threads;
 
+/// A month with 120 rooms on each night.
 const HOTEL: &str = "name = \"C\"
 first_night = \"2025-07-01\"
 nights = 31
@@ -17,6 +18,7 @@ stale_after = 20
 publications = 100
 ";
 
+/// Its stays.
 const STAYS: u64 = 300;
 
 /// Stays of one to seven nights, at a rate a night that differs from stay to stay.
@@ -31,6 +33,7 @@ fn stays(alloc: Global) -> Result<String, AllocError> {
     Ok(text)
 }
 
+/// A forecast of up to 19 for each stay.
 fn forecast(alloc: Global) -> Result<String, AllocError> {
     let mut text = String::from_str(alloc, "code,count\n")?;
     for stay in 0..STAYS {

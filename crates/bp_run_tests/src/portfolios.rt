@@ -45,6 +45,7 @@ fn lists() -> &'static [(&'static str, &'static str)] {
 /// A line of a portfolio, the fetch and the put that fail, the status, and what is written, in parts.
 type Line = (&'static str, u64, u64, u8, &'static [&'static str]);
 
+/// The lines. A comment above some says what they show.
 fn served() -> &'static [Line] {
     &[
         // Each hotel has its line and its journal, and the status is that of the worst.
@@ -164,6 +165,7 @@ struct Noted {
 }
 
 impl Noted {
+    /// Nobody has arrived.
     fn new() -> Noted {
         Noted {
             first: AtomicU64::new(0),

@@ -1,5 +1,4 @@
 //! Lines of scenarios through the whole program.
-
 use crate::files::PROBLEM;
 use bp_edges::{HeldFile, MemoryShelf, MemorySink, NoGate};
 use bp_run::run;
@@ -20,6 +19,7 @@ rate 0 200
 end
 ";
 
+/// Their answers.
 const FOUR_ANSWERS: &str = "scenario 1 value 250 prices 0 100 40
 scenario 2 value 140 prices 0 110 40
 scenario 3 refused 1
@@ -52,6 +52,7 @@ const LINES: [(&str, u64, u64, u8, &str); 11] = [
     ("scenarios A four", 0, 1, 5, ""),
 ];
 
+/// The words of a line, where one space parts two words.
 fn words_of(alloc: Global, line: &str) -> Result<Vec<String>, AllocError> {
     let mut words = Vec::new(alloc);
     for word in line.split(' ') {

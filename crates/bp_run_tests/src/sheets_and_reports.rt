@@ -51,6 +51,7 @@ date = \"2026-01-01\"
 rooms = 1
 ";
 
+/// Its stays file, with a code of sixteen letters.
 const HUNDREDTHS_STAYS: &str = "code,arrival,nights,rate
 P0,2025-12-31,2,100
 P1,2026-01-01,2,150
@@ -58,6 +59,7 @@ P2,2025-12-31,1,60
 SIXTEEN-LETTERS.,2026-01-02,1,40
 ";
 
+/// Its forecast file.
 const HUNDREDTHS_FORECAST: &str = "code,count
 P0,300
 P1,100
@@ -132,6 +134,7 @@ P3                    0        0      0      0         0        5
 value 250
 ";
 
+/// A file in memory.
 fn held(alloc: Global, name: &str, text: &str) -> Result<HeldFile, AllocError> {
     let name = String::from_str(alloc, name)?;
     let bytes = Vec::from_slice(alloc, text.as_bytes())?;
@@ -156,6 +159,7 @@ fn shelf(alloc: Global, failing: u64) -> Result<MemoryShelf, AllocError> {
     Ok(MemoryShelf::new(shelf, [failing].to_vec(alloc)?))
 }
 
+/// The words of a line, where one space parts two words.
 fn words_of(alloc: Global, line: &str) -> Result<Vec<String>, AllocError> {
     let mut words = Vec::new(alloc);
     for word in line.split(' ') {

@@ -20,6 +20,7 @@ pub(crate) fn words_of(alloc: Global, line: &str) -> Result<Vec<String>, AllocEr
     Ok(words)
 }
 
+/// A file in memory.
 pub(crate) fn held(alloc: Global, name: &str, bytes: &[u8]) -> Result<HeldFile, AllocError> {
     let name = String::from_str(alloc, name)?;
     let bytes = Vec::from_slice(alloc, bytes)?;

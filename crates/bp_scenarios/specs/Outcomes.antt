@@ -14,7 +14,8 @@ pub record IsSolution (p : Program) (changes : List Change) (value : ℕ) (price
   pub optimum : IsOptimum (changed_by_all p changes) value
   pub least : AreLeastPrices (changed_by_all p changes) prices
 
--- the answer to a list of changes: the optimum and the least prices after them, or the first change that the rooms do not allow
+-- the answer to a list of changes: the optimum and the least prices after them, or the first change that the rooms do
+-- not allow
 abbrev pub IsOutcome : Program → List Change → Outcome → Type 0
 IsOutcome p changes (Solved value prices) = IsSolution p changes value prices
 IsOutcome p changes (Refused change) = first_refused 1 p changes ≡ Some change

@@ -25,6 +25,7 @@ makes (Makes c ∷ more) = c ∷ makes more
 abbrev pub IsFirst : Line → Type 0
 IsFirst line = line ≡ codes "scenarios 1"
 
+-- any line, for the first one has no number above a limit
 abbrev pub IsAnyLine : Line → Type 0
 IsAnyLine line = Unit {0}
 

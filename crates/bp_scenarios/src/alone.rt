@@ -14,7 +14,7 @@ use std::marker::Brand;
 use std::sync::ledger::Blank;
 
 /// The outcome of each list of changes, in their order, as `scenarios` gives them. It starts no thread and wants no
-/// runtime.
+/// runtime. The one error is `Memory`.
 pub fn scenarios_alone(
     alloc: Global,
     base: &Instance,

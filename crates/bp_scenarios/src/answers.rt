@@ -17,7 +17,8 @@ use std::marker::Brand;
 use std::sync::ledger::{Blank, Ledger};
 use std::thread::Threads;
 
-/// The outcome of each list of changes, in their order. Each is of the base after its own list alone.
+/// The outcome of each list of changes, in their order. Each is of the base after its own list alone. The one error is
+/// `Memory`.
 ///
 /// The base is solved once. Each piece of the lists has one copy of that solver, which is set to the base for each list
 /// and restarted from there; a restart costs what the list's changes move.
@@ -34,7 +35,7 @@ pub fn scenarios(
     outcomes(rt, alloc, base, &solver, lists)
 }
 
-/// The solver of an instance.
+/// The solver of an instance, by a cold solve.
 pub(crate) fn solved<L: Ledger>(
     alloc: Global,
     instance: &Instance,

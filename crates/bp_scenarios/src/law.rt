@@ -1,5 +1,4 @@
 //! Laws over scenarios, as the contracts of functions that do nothing.
-
 ghost use Rattle.bp_text.specs.Laws.{HasOneSpelling, IsPrefixFree};
 ghost use Rattle.bp_scenarios.specs.Texts.{scenario_lines};
 ghost use Rattle.bp_scenarios.specs.Laws.{OutcomeIsUnique, ScenariosAreReadOneWay};

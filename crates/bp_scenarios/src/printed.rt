@@ -12,7 +12,8 @@ use bp_edges::{Sink, WriteError};
 use bp_text::{Draft, push_number, push_numbers};
 use std::alloc::{AllocError, Global};
 
-/// Writes a line for each outcome, numbered from 1. It holds one piece of the text beside one line, and no more.
+/// Writes a line for each outcome, numbered from 1. It holds one piece of the text beside one line, and no more. The
+/// error is `Memory`, or `Failed` where the sink failed.
 pub fn write_outcomes<K: Sink>(
     alloc: Global,
     outcomes: &[Outcome],

@@ -16,7 +16,8 @@ use bp_types::limits::{MOST_CHANGES, MOST_SCENARIOS};
 use bp_types::{Change, Instance};
 use std::alloc::{AllocError, Global};
 
-/// Reads the text of scenarios of a problem, or says which line of it is the first wrong one.
+/// Reads the text of scenarios of a problem, or says which line of it is the first wrong one, counted from 1. Rooms are
+/// whole rooms, rates are in minor units of money; whether the rooms of the nights allow a change is not asked here.
 pub fn read_scenarios(
     alloc: Global,
     base: &Instance,

@@ -1,3 +1,5 @@
+-- Lemmas on scripts and on the problem of a demo.
+
 -- What a request tells that was read of a row: its session and its command are within their limits.
 pub mod RequestLemmas
 -- What holds of each request that was read holds of the commands of every session.

@@ -74,16 +74,19 @@ group_in line total arrival nights rooms amount =
     span_in line total arrival nights >>= (λ span.
     Ok (Group span rooms amount))))))
 
--- the cells of a row behind its session and its verb
+-- the cell that says what a verb is about: a code, a number or a date
 abbrev pub item_cell : Record → List ℕ
 item_cell row = slice_index_or row 2 []
 
+-- the cell with the nights of a group
 abbrev pub nights_cell : Record → List ℕ
 nights_cell row = slice_index_or row 3 []
 
+-- the cell with a number of rooms
 abbrev pub rooms_cell : Record → List ℕ
 rooms_cell row = slice_index_or row 4 []
 
+-- the cell with an amount, a forecast or a rate
 abbrev pub amount_cell : Record → List ℕ
 amount_cell row = slice_index_or row 5 []
 

@@ -44,6 +44,7 @@ abbrev pub session_of : ℕ → Option ℕ → Result ℕ TableRefusal
 session_of line None = Err (Session line)
 session_of line (Some n) = if is_between 1 MOST_SESSIONS n then Ok n else Err (Session line)
 
+-- the same of a text
 abbrev pub session_in : ℕ → List ℕ → Result ℕ TableRefusal
 session_in line t = session_of line (number_of t)
 

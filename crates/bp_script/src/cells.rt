@@ -1,3 +1,4 @@
+//! The tests of a script's cells. The line of a refusal is the record's.
 ghost use Rattle.std.specs.Prelude.{◌≡◌};
 ghost use Rattle.bp_script.specs.Commands.{stay_in, number_within, nights_in, night_in};
 
@@ -5,7 +6,7 @@ use bp_hotelfile::DateError;
 use bp_stayfile::cells::{code_in, number_in};
 use bp_stayfile::{Codes, TableRefusal};
 
-/// The stay that a code names.
+/// The stay that a code names, counted from 0; else `Code` or `NoCode`.
 pub(crate) fn stay_in(codes: &Codes, line: u64, text: &str) -> Result<u32, TableRefusal>
     ensures { result ≡ stay_in codes.now line text.now }
 {
@@ -13,7 +14,7 @@ pub(crate) fn stay_in(codes: &Codes, line: u64, text: &str) -> Result<u32, Table
     codes.find(text).ok_or(TableRefusal::NoCode { line })
 }
 
-/// A number from least to most.
+/// A number from least to most; else `Number` or `Limit`.
 pub(crate) fn number_within(
     least: u64,
     most: u64,
@@ -30,7 +31,7 @@ pub(crate) fn number_within(
     }
 }
 
-/// A number of nights, one at least.
+/// A number of nights, one at least; else `Number` or `Limit`.
 pub(crate) fn nights_in(line: u64, text: &str) -> Result<u64, TableRefusal>
     ensures { result ≡ nights_in line text.now }
 {
@@ -42,7 +43,7 @@ pub(crate) fn nights_in(line: u64, text: &str) -> Result<u64, TableRefusal>
     }
 }
 
-/// A night of the hotel.
+/// A night of the hotel, counted from 0; else `Outside`.
 pub(crate) fn night_in(line: u64, night: Result<u32, DateError>) -> Result<u32, TableRefusal>
     ensures { result ≡ night_in line night }
 {

@@ -1,3 +1,4 @@
+//! The command of a row, by its verb: its cells are tested in their order.
 ghost use Rattle.std.specs.Prelude.{◌≡◌, length};
 ghost use Rattle.bp_script.specs.Commands.{
   book_in,
@@ -20,6 +21,7 @@ use bp_types::limits::{
     MOST_AMOUNT, MOST_ENTRIES, MOST_FORECAST, MOST_GROUP_ROOMS, MOST_RATE, MOST_ROOMS,
 };
 
+/// A Book of the stay that the item names.
 fn book_in(codes: &Codes, line: u64, item: &str) -> Result<Command, TableRefusal>
     ensures { result ≡ book_in codes.now line item.now }
 {
@@ -27,6 +29,7 @@ fn book_in(codes: &Codes, line: u64, item: &str) -> Result<Command, TableRefusal
     Ok(Command::Book { stay })
 }
 
+/// A Cancel of the session's booking call of that number.
 fn cancel_in(line: u64, item: &str) -> Result<Command, TableRefusal>
     ensures { result ≡ cancel_in line item.now }
 {
@@ -34,6 +37,7 @@ fn cancel_in(line: u64, item: &str) -> Result<Command, TableRefusal>
     Ok(Command::Cancel { nth })
 }
 
+/// A Reforecast of the stay that the item names: the amount is its new forecast, in units.
 fn reforecast_in(
     codes: &Codes,
     line: u64,
@@ -47,6 +51,7 @@ fn reforecast_in(
     Ok(Command::Reforecast { stay, count })
 }
 
+/// A Reprice of the stay that the item names: the amount is its new rate, in minor units of money.
 fn reprice_in(codes: &Codes, line: u64, item: &str, amount: &str) -> Result<Command, TableRefusal>
     ensures { result ≡ reprice_in codes.now line item.now amount.now }
 {
@@ -55,6 +60,7 @@ fn reprice_in(codes: &Codes, line: u64, item: &str, amount: &str) -> Result<Comm
     Ok(Command::Reprice { stay, rate })
 }
 
+/// A Resize of the night that the item dates, to so many whole rooms.
 fn resize_in(line: u64, date: Result<u32, DateError>, rooms: &str) -> Result<Command, TableRefusal>
     ensures { result ≡ resize_in line date rooms.now }
 {
@@ -64,6 +70,8 @@ fn resize_in(line: u64, date: Result<u32, DateError>, rooms: &str) -> Result<Com
     Ok(Command::Resize { night, rooms })
 }
 
+/// A Group of so many rooms on each of so many nights from the date of the item, of a hotel of `total` nights, for an
+/// amount in minor units of money.
 fn group_in(
     line: u64,
     total: u32,

@@ -1,3 +1,4 @@
+//! The commands of one session of a script.
 ghost use Rattle.std.specs.Prelude.{◌≡◌};
 
 use bp_types::Command;

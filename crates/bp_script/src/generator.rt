@@ -12,9 +12,10 @@ use std::marker::Model;
 /// Seeds are below this number: they have nine digits at most.
 pub const SEEDS: u64 = 1_000_000_000;
 
-/// The factor of a draw and its modulus, a prime: the minimal standard generator of Park and Miller, 1988.
+/// The factor of a draw: with its modulus, the minimal standard generator of Park and Miller, 1988.
 const FACTOR: u64 = 16_807;
 
+/// The modulus of a draw: the greatest prime of 31 bits.
 const MODULUS: u64 = 2_147_483_647;
 
 /// The longest stay, in nights.
@@ -86,7 +87,9 @@ fn stays_drawn(alloc: Global, seed: u64, nights: u32, stays: u32) -> Result<Vec<
     Ok(drawn)
 }
 
-/// The problem of a seed: so many nights of so many rooms, and so many stays that are drawn, of one to seven nights.
+/// The problem of a seed below `SEEDS`: so many nights of so many rooms, and so many stays that are drawn, of one to
+/// seven nights. A room is one unit; rates are in minor units of money. Its time grows with nights plus stays, and the
+/// one error is `Memory`.
 pub fn generate(
     alloc: Global,
     seed: u64,

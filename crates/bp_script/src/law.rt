@@ -1,5 +1,4 @@
 //! Laws over the definitions, as the contracts of functions that do nothing.
-
 ghost use Rattle.bp_script.specs.Laws.{SessionsAreFew, CommandsAreFew, CommandsAreInRange};
 
 /// A script has no more sessions than there may be.

@@ -1,3 +1,4 @@
+//! What a row of a script asks: a session and its command.
 ghost use Rattle.std.specs.Prelude.{◌≡◌, ◌+◌, length};
 ghost use Rattle.bp_script.specs.Scripts.{session_in, room_in, request_in};
 
@@ -12,10 +13,13 @@ use bp_types::limits::{MOST_ENTRIES, MOST_SESSIONS};
 /// What a row asks of a session.
 #[derive(Clone, Copy)]
 pub(crate) struct Request {
+    /// The session, from 1 to `MOST_SESSIONS`.
     pub session: u32,
+    /// Its command, within its limits.
     pub command: Command,
 }
 
+/// The number of a session, from 1 to the most that there may be; else `Session`.
 fn session_in(line: u64, text: &str) -> Result<u32, TableRefusal>
     ensures { result ≡ session_in line text.now }
 {

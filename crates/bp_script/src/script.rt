@@ -1,3 +1,4 @@
+//! The script of a desk's run, read row by row, and its commands by session.
 ghost use Rattle.std.specs.Prelude.{◌≡◌, map, length, IfOk, IfErr, Ok, Err};
 ghost use Rattle.bp_stayfile.specs.Reading.{table_read};
 ghost use Rattle.bp_stayfile.specs.Refusals.{IfRefused};
@@ -19,6 +20,7 @@ use bp_stayfile::{Codes, Column, TableError, TableRefusal};
 use bp_types::Memory;
 use std::alloc::Global;
 
+/// The columns of a script.
 const COLUMNS: [Column; 6] = [
     Column::Session,
     Column::Verb,
@@ -83,7 +85,7 @@ fn greatest_session(requests: &[Request]) -> u32
         .fold(0, |most, request| most.max(request.session))
 }
 
-/// The commands of each session, from session 1 on.
+/// The commands of each session, from session 1 on, by a pass over all requests for each.
 fn by_session(alloc: Global, requests: &[Request]) -> Result<Vec<Commands>, Memory>
     ensures { IfOk result (λ v. v.items ≡ by_session requests.now) }
 {
@@ -98,7 +100,7 @@ fn by_session(alloc: Global, requests: &[Request]) -> Result<Vec<Commands>, Memo
 }
 
 /// The commands of each session of a script, from session 1 to the greatest that is named, or the first thing that is
-/// wrong.
+/// wrong with it. `Memory` says nothing of the script.
 ///
 /// A session that no row names has none. The codes are those of the hotel's stays file.
 pub fn read_script(

@@ -1,3 +1,4 @@
+//! The verbs of a script.
 ghost use Rattle.std.specs.Prelude.{◌≡◌};
 ghost use Rattle.bp_script.specs.Verbs.{verb_of, verb_in};
 
@@ -14,6 +15,7 @@ pub(crate) enum Verb {
     Group,
 }
 
+/// The verb that a text is, if it is one.
 fn verb_of(text: &str) -> Option<Verb>
     ensures { result ≡ verb_of text.now }
 {
@@ -28,6 +30,7 @@ fn verb_of(text: &str) -> Option<Verb>
     }
 }
 
+/// A verb; else `Verb`.
 pub(crate) fn verb_in(line: u64, text: &str) -> Result<Verb, TableRefusal>
     ensures { result ≡ verb_in line text.now }
 {

@@ -1,3 +1,5 @@
+-- Lemmas on bands and sheets, each page after those that it rests on.
+
 -- what is known of each member of a list that grows
 pub mod Members
 -- open stays among one stay more

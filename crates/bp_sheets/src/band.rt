@@ -23,7 +23,8 @@ pub struct Band {
     pub loss: Option<u128>,
 }
 
-/// The band of each night of an instance, whose nights have 10,000 rooms at most.
+/// The band of each night of an instance, whose nights have 10,000 rooms at most; one band per night. The one error is
+/// `Memory`.
 ///
 /// It takes one cold solve, and for each night two copies of the solver with one search each.
 pub fn bands(alloc: Global, instance: &Instance) -> Result<Vec<Band>, Memory>
@@ -37,7 +38,9 @@ pub fn bands(alloc: Global, instance: &Instance) -> Result<Vec<Band>, Memory>
 /// The least optimal prices of an instance, and the bands of its nights.
 #[derive(Drop)]
 pub(crate) struct PricedNights {
+    /// The least optimal prices, on a board for position 0.
     pub board: Board,
+    /// One band per night.
     pub bands: Vec<Band>,
 }
 

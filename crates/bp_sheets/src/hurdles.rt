@@ -9,7 +9,8 @@ use std::alloc::{AllocError, Global};
 /// The longest stay that a sheet has a hurdle for, in nights.
 pub const MOST_LENGTH: u32 = 7;
 
-/// The prices of the stays of 1, 2 and so on nights from an arrival, up to a week and within the nights.
+/// The prices of the stays of 1, 2 and so on nights from an arrival, up to a week and within the nights, in minor units
+/// of money. Each is a difference of two sums.
 pub(crate) fn hurdles(alloc: Global, board: &Board, arrival: u32) -> Result<Vec<u64>, AllocError>
     requires { arrival < length board.now.certificate.prices }
     ensures { IfOk result (λ h. h.items ≡ hurdles board.now.certificate.prices arrival) }

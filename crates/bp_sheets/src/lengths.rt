@@ -32,7 +32,8 @@ fn is_open(instance: &Instance, board: &Board, stay: u32) -> bool
     board.price(stay.span) <= stay.rate && has_rooms(instance, stay.span)
 }
 
-/// The least length of each arrival.
+/// The least length of each arrival, by a pass over all stays for each: in nights, or None where no stay that arrives
+/// then is open.
 pub(crate) fn least_lengths(
     alloc: Global,
     instance: &Instance,

@@ -10,8 +10,8 @@ use bp_types::{Memory, Span, Steps};
 use std::alloc::Global;
 use std::sync::ledger::Ledger;
 
-/// What one unit more on the night brings, beside the optimum of the solver's program; None where the night has as
-/// many as a problem may have.
+/// What one unit more on the night brings, beside the optimum of the solver's program; None where the night has as many
+/// as a problem may have.
 pub(crate) fn gain_of<L: Ledger>(
     alloc: Global,
     solver: &Solver,

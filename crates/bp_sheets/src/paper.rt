@@ -41,7 +41,8 @@ impl SheetText {
     }
 }
 
-/// The sheet of an instance, whose nights have 10,000 rooms at most.
+/// The sheet of an instance, whose nights have 10,000 rooms at most. It takes as many searches as `bands`. The one
+/// error is `Memory`.
 pub fn sheet_of(alloc: Global, instance: &Instance) -> Result<SheetText, Memory>
     requires { All (λ r. r ≤ MOST_ROOMS) instance.now.rooms }
     ensures { IfOk result (IsSheet instance.now) }
@@ -54,8 +55,8 @@ pub fn sheet_of(alloc: Global, instance: &Instance) -> Result<SheetText, Memory>
     Ok(SheetText { text })
 }
 
-/// Writes the sheet of an instance, whose nights have 10,000 rooms at most. Where there is no memory for it, nothing
-/// is written.
+/// Writes the sheet of an instance, whose nights have 10,000 rooms at most. Where there is no memory for it, nothing is
+/// written. The error is `Memory`, or `Failed` where the sink failed.
 pub fn sheet<K: Sink>(alloc: Global, instance: &Instance, out: &mut K) -> Result<(), WriteError>
     requires { All (λ r. r ≤ MOST_ROOMS) instance.now.rooms }
     ensures writes { WritesSheet instance.now (K.written out.old) (K.written out.new) result }

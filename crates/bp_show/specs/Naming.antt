@@ -17,17 +17,22 @@ pub record Agrees (x : Face) (views : List (Option Name)) : Type 0 where
   pub face : IsFace x
   pub each : (seat : ℕ) (n : Name) → get_elem? views seat ≡ some (Some n) → n.table ≡ x.gift.table_id
 
+-- of no table
 abbrev pub unnamed : Option Name
 unnamed = None
 
+-- of this table
 abbrev pub named : TableId → Option Name
 named t = Some (record { table = t })
 
+-- who has shown something knows its table afterwards
 abbrev pub Named : Option Name → Face → Face → Option Name → Type 0
 Named v x y w = w ≡ named y.gift.table_id
 
+-- who looks learns nothing new, and finds a face whose table is the one that it knows, if it knows one
 abbrev pub Saw : Option Name → Face → Face → Option Name → Type 0
 Saw v x y w = (w ≡ v) × IsFace y × ((n : Name) → v ≡ Some n → n.table ≡ y.gift.table_id)
 
+-- who is told knows what the other one knew
 abbrev pub informed : Option Name → Option Name → Option Name
 informed v w = w

@@ -9,7 +9,8 @@ use Rattle.bp_show.specs.Vectors.{Vector}
 use Rattle.bp_show.specs.declared.face.Face.{Face}
 use Rattle.bp_show.specs.declared.name.Name.{Name}
 
--- Which screen it is or is of, for how many nights its vectors have prices, and the vectors that it has shown or seen, oldest first.
+-- Which screen it is or is of, for how many nights its vectors have prices, and the vectors that it has shown or seen,
+-- oldest first.
 pub record Display : Type 0 where
   pub screen : TableId
   pub nights : ℕ

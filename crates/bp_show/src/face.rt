@@ -1,3 +1,4 @@
+//! What readers take, and how it changes where one vector more is shown.
 use crate::gifts::Gifts;
 use crate::order::Place;
 use crate::sums::Sums;
@@ -20,6 +21,7 @@ pub(crate) struct Showing {
     pub(crate) like: Place,
 }
 
+/// The one operation of left-right here: it is made on both copies, and never fails.
 impl Absorb<Showing> for Face {
     type State = Face;
 

@@ -1,5 +1,4 @@
 //! The steps of a screen that shows one vector more: a try, what readers take, the list, and seats for the views.
-
 ghost use Rattle.std.specs.Prelude.{◌≡◌, ◌+◌, ◌<◌, true, false, [], ◌∷◌, ◌++◌, MatchResult, drop};
 ghost use Rattle.std.specs.Arc.{arc_value};
 ghost use Rattle.left_right.specs.Sides.{view};
@@ -17,6 +16,7 @@ use left_right::writer::Writer;
 use std::alloc::AllocError;
 use std::sync::{Arc, Wait};
 
+/// The writer of what readers take.
 pub(crate) type FaceWriter = Writer<Face, Showing, Option<Name>, Shows>;
 
 /// Notes a try to show the vector, and gives a seat that knows of it.
@@ -34,7 +34,8 @@ pub(crate) fn prepare(chronicle: &Arc<Chronicle>, place: &mut Place, vector: &Su
     chronicle.shared.split_seat::<Gift>(place)
 }
 
-/// Shows readers one vector more. It waits until none reads what they took before.
+/// Shows readers one vector more, by left-right. It waits until none reads what they took before. After an error all is
+/// as it was.
 pub(crate) fn show<R: Wait>(
     writer: FaceWriter,
     with: (&R, Showing),
@@ -79,7 +80,7 @@ pub(crate) fn commit(chronicle: &Arc<Chronicle>, place: &mut Place, stamp: u64, 
     chronicle.shared.store::<Commit>(place, 0, stamp);
 }
 
-/// Gives each view a seat that knows of the try.
+/// Gives each view a seat that knows of the try, where its perch is empty.
 pub(crate) fn hand_out(chronicle: &Arc<Chronicle>, place: &mut Place, face: &Face)
     requires table { (place.old.table_id ≡ (arc_value chronicle.now).shared.table_id) × (place.old.table_id.words ≡ 1) }
     requires gift { (face.now.gift.table_id ≡ place.old.table_id) × (face.now.gift.view ≡ gift place.old.me.0) }

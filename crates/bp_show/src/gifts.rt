@@ -1,3 +1,4 @@
+//! Perches for the views, on which seats rest that know of a try.
 ghost use Rattle.std.specs.Prelude.{◌≡◌, ◌<◌, [], IfSome};
 ghost use Rattle.bp_types.specs.declared.limits.TheConstants.{MOST_VIEWS};
 

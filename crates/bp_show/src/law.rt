@@ -1,5 +1,4 @@
 //! Laws over the vectors shown, as the contracts of functions that do nothing.
-
 ghost use Rattle.bp_show.specs.Histories.{VectorsStay, VectorsCertify};
 
 /// The vectors of a history, each by its number, are those of each longer one.

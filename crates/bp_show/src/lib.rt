@@ -3,8 +3,12 @@
 //!
 //! Nights are numbered from 0, and money is in minor units.
 //!
-//! A session books, publishes the prices for the history since, and has them shown; `docs/displays.md` shows
-//! the whole program.
+//! What views read is kept by left-right, two copies of which readers enter one while the writer changes the other
+//! (Ramalhete and Correia, *Left-Right: a concurrency control technique with wait-free population oblivious reads*,
+//! 2015).
+//!
+//! A session books, publishes the prices for the history since, and has them shown; `docs/displays.md` shows the whole
+//! program.
 //!
 //! ```
 //! desk.book(rt, session, TRADE_FAIR)?;

@@ -1,3 +1,4 @@
+//! Which table a screen has, as its writer and its readers know it.
 ghost use base.Fml.{ftrue};
 ghost use Rattle.atomic_table.specs.Seated.{TableId, table_id_coded};
 

@@ -44,8 +44,10 @@ impl TableRule<Sums, Sight, Snapshot<Sums>> for Order {
     ghost first = { λ about. first_sight about.value };
 }
 
+/// The table of one word whose rule keeps the list.
 pub(crate) type Chronicle = Table<Sums, Sight, Snapshot<Sums>, Order, Global>;
 
+/// A seat at the table: the screen's, a view's, or one that rests on a perch.
 pub(crate) type Place = Seat<Sums, Sight>;
 
 /// The screen tries to show a vector.

@@ -1,3 +1,4 @@
+//! The screen: it follows a pass of the shared desk, and shows the newest vector that the pass has seen.
 ghost use Rattle.std.specs.Prelude.{◌≡◌, ◌≤◌, [], ◌∷◌, length, All, IfOk, MatchResult};
 ghost use Rattle.bp_types.specs.declared.limits.TheConstants.{MOST_VIEWS};
 ghost use Rattle.bp_show.specs.Answers.{Followed};
@@ -27,7 +28,8 @@ pub enum Follow {
 /// A screen, which shows vectors of rising numbers to its views. Where it is dropped, it waits until none of them reads
 /// what it shows; each goes on with the last vector that it has seen.
 ///
-/// Contracts see the list of vectors that it has shown.
+/// Contracts see which screen it is, for how many nights its vectors have prices, and the list of vectors that it has
+/// shown.
 pub struct Screen<'a, R: Wait> {
     stage: Stage,
     rt: &'a R,
@@ -43,7 +45,7 @@ impl<'a, R: Wait> Model for Screen<'a, R> {
 
 impl<'a, R: Wait> Screen<'a, R> {
     /// A screen that shows the vector on a board under a number, and its views, 1 to `MOST_VIEWS`. All room is taken
-    /// here, and it waits for nobody.
+    /// here, and it waits for nobody. The one error is `Memory`.
     pub fn new(
         rt: &'a R,
         alloc: Global,
@@ -71,7 +73,8 @@ impl<'a, R: Wait> Screen<'a, R> {
     }
 
     /// Shows the newest vector that the pass has seen, where its number is above that of the last one shown. It waits
-    /// until no view reads what was shown before.
+    /// until no view reads what was shown before. Its time grows with the nights, whose prices it reads. After `Memory`
+    /// what was shown is as before.
     pub fn follow(&mut self, pass: &Pass) -> Result<Follow, Memory>
         requires { length pass.now.house.rooms ≡ self.old.nights }
         ensures screen { self.new.screen ≡ self.old.screen }

@@ -18,8 +18,7 @@ use std::snapshot::Snapshot;
 use std::sync::{Arc, Wait};
 
 /// What views look at, with the list of vectors that it has shown. It may end only where nobody reads it, so who ends
-/// it
-/// has to be able to wait.
+/// it has to be able to wait.
 ///
 /// Contracts see the list.
 pub(crate) struct Stage {
@@ -164,7 +163,9 @@ impl Stage {
         ensures stage { self.new ≡ self.old }
         ensures view { IfOk result (λ v. v ≡ self.old) }
     {
-        let last = self.writer.published().shown.copy();
+        let face = self.writer.published();
+        let last = face.shown.copy();
+        let known = face.stamp;
         let chronicle = Arc::try_clone(&self.chronicle)?;
         let mut reader = self.writer.factory().reader()?;
         reader.learn::<Tells>(self.writer.tell::<Tells>());
@@ -175,6 +176,7 @@ impl Stage {
             place,
             index,
             last,
+            known,
         })
     }
 
@@ -194,6 +196,8 @@ impl Stage {
         self.chronicle
             .shared
             .join_seat::<Take>(&mut view.place, note);
-        view.last = self.writer.published().shown.copy();
+        let face = self.writer.published();
+        view.last = face.shown.copy();
+        view.known = face.stamp;
     }
 }

@@ -1,3 +1,4 @@
+//! A vector as displays keep it: number, position, and the sums of its prices, in a fixed array.
 ghost use Rattle.std.specs.Prelude.{◌≡◌, ◌≤◌, length, slice_index};
 ghost use Rattle.bp_types.specs.declared.limits.TheConstants.{MOST_NIGHTS};
 ghost use Rattle.bp_types.specs.Prices.{SumUp};
@@ -105,7 +106,7 @@ impl Sums {
         self.nights
     }
 
-    /// The sum of the prices of a span's nights.
+    /// The sum of the prices of a span's nights, in minor units of money: a difference of two sums.
     pub(crate) fn price(&self, span: Span) -> u64
         requires { IsSpanWithin (length self.now.prices) span }
         ensures { result ≡ price self.now.prices span }

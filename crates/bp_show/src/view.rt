@@ -43,6 +43,8 @@ pub struct View {
     pub(crate) index: usize,
     /// The last vector that it has seen.
     pub(crate) last: Sums,
+    /// The try that showed it. Where the chronicle's word is another one, a newer vector is shown.
+    pub(crate) known: u64,
 }
 
 impl Model for View {
@@ -73,19 +75,6 @@ struct Found {
     vector: Sums,
     stamp: u64,
     seat: Place,
-}
-
-/// Whether a vector with a greater number is shown.
-fn shows_newer(reader: FaceReader, last: u64) -> (FaceReader, bool)
-    ensures { view result.0.place ≡ view reader.place }
-{
-    match reader.enter_as::<Sees>() {
-        Ok(reading) => {
-            let newer = reading.get().shown.number() > last;
-            (reading.leave(), newer)
-        }
-        Err(reader) => (reader, false),
-    }
 }
 
 /// Takes the vector that is shown, where a seat that knows of its try rests on this perch.
@@ -154,11 +143,10 @@ impl View {
         }
     }
 
-    /// Whether a newer vector is shown than the last one that the view has seen.
-    fn is_behind(&mut self) -> bool
-        ensures { self.new ≡ self.old }
-    {
-        replace_with(&mut self.reader, self.last.number(), shows_newer)
+    /// Whether a newer vector is shown than the last one that the view has seen. One word is read, so that a look at a
+    /// screen that has not changed writes nothing that another view reads.
+    fn is_behind(&self) -> bool {
+        self.chronicle.shared.peek(0) != self.known
     }
 
     /// Sees what is shown, where its try is the last one in the list.
@@ -182,6 +170,7 @@ impl View {
         let showed = self.chronicle.shared.load::<Adopt>(&mut self.place, 0);
         if showed == stamp {
             self.last = vector;
+            self.known = stamp;
         }
     }
 }

@@ -1,3 +1,4 @@
+//! A shared desk with one session, and a screen that follows it.
 ghost use Rattle.std.specs.Prelude.{◌≡◌, ◌≤◌, length, All, IfOk};
 ghost use Rattle.bp_types.specs.declared.limits.TheConstants.{MOST_VIEWS};
 

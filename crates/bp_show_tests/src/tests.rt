@@ -1,3 +1,4 @@
+//! Displays beside a desk: what a look finds, alone and in threads.
 ghost use Rattle.std.specs.Prelude.{◌≡◌};
 
 use crate::evening::evening;
@@ -8,7 +9,7 @@ use bp_types::{Command, Span};
 use std::test::Fail;
 use std::thread::{Threads, for_each_mut, join};
 
-// A look at a span, where the view has its nights.
+/// A look at a span, where the view has its nights.
 fn look(view: &mut View, span: Span) -> Option<Look>
     ensures { view.new.screen ≡ view.old.screen }
 {
@@ -18,10 +19,12 @@ fn look(view: &mut View, span: Span) -> Option<Look>
     Some(view.look(span))
 }
 
+/// The number of the vector that a look at the first night finds.
 fn number(view: &mut View) -> Option<u64> {
     look(view, N0).map(|look| look.number)
 }
 
+/// Whether a look found this vector, position and sum.
 fn is(look: Option<Look>, number: u64, position: u64, sum: u64) -> bool {
     look == Some(Look {
         number,
@@ -30,7 +33,7 @@ fn is(look: Option<Look>, number: u64, position: u64, sum: u64) -> bool {
     })
 }
 
-// The desk publishes vector 1 after one booking, and nothing more.
+/// The desk publishes vector 1 after one booking, and nothing more.
 #[test]
 fn a_screen_follows(rt: HostRuntime) -> Result<(), Fail> {
     let (mut lobby, mut views) = Lobby::open(&rt, rt.alloc(), THREE_NIGHTS, 1)?;
@@ -50,7 +53,7 @@ fn a_screen_follows(rt: HostRuntime) -> Result<(), Fail> {
     Ok(())
 }
 
-// A view answers from its copy where its screen is gone, be there something newer or not.
+/// A view answers from its copy where its screen is gone, be there something newer or not.
 #[test]
 fn a_view_whose_screen_is_gone(rt: HostRuntime) -> Result<(), Fail> {
     let (mut lobby, mut views) = Lobby::open(&rt, rt.alloc(), ONE_ROOM, 2)?;
@@ -65,7 +68,7 @@ fn a_view_whose_screen_is_gone(rt: HostRuntime) -> Result<(), Fail> {
     Ok(())
 }
 
-// Whether the numbers of so many looks never fall.
+/// Whether the numbers of so many looks never fall.
 fn never_falls(view: &mut View, looks: u32) -> bool {
     let mut last = Some(0);
     for _ in 0..looks {
@@ -78,8 +81,8 @@ fn never_falls(view: &mut View, looks: u32) -> bool {
     true
 }
 
-// No clause says that a look finds what was shown last, so a look that answers only what the last `meet` gave is
-// refused here alone.
+/// No clause says that a look finds what was shown last, so a look that answers only what the last `meet` gave is
+/// refused here alone.
 #[test]
 fn two_views_that_look(rt: HostRuntime) -> Result<(), Fail> {
     let (mut lobby, mut views) = Lobby::open(&rt, rt.alloc(), ONE_ROOM, 2)?;
@@ -103,6 +106,7 @@ fn two_views_that_look(rt: HostRuntime) -> Result<(), Fail> {
     Ok(())
 }
 
+/// A view, and the number that it found.
 #[derive(Drop)]
 struct Viewer {
     view: View,

@@ -1,11 +1,16 @@
+//! Arcs, where each stands, and what each carries.
+
 /// More than any flow.
 pub(crate) const MUCH: i64 = 1_000_000_000_000_000;
 
 /// Where an arc stands: at one of its bounds, or in the tree.
 #[derive(Clone, Copy, PartialEq, Eq)]
 pub(crate) enum State {
+    /// At its lower bound: it carries nothing.
     Lower,
+    /// In the tree, where its reduced cost is 0; also an arc without room, which never enters.
     Tree,
+    /// At its upper bound: it carries all that it has room for.
     Upper,
 }
 
@@ -20,19 +25,25 @@ impl State {
     }
 }
 
-/// An arc: what a unit costs, minus the rate for a stay, and where it leads.
+/// An arc: what a unit costs, where it leads, and where it stands.
 #[derive(Clone, Copy)]
 pub(crate) struct Arc {
+    /// In minor units of money: minus the rate for a stay, 0 for a free arc.
     pub(crate) cost: i64,
+    /// The node that it leaves.
     pub(crate) tail: u32,
+    /// The node that it reaches.
     pub(crate) head: u32,
+    /// Where it stands.
     pub(crate) state: State,
 }
 
-/// What an arc carries, and what it has room for in all.
+/// What an arc carries, and what it has room for in all, in units.
 #[derive(Clone, Copy)]
 pub(crate) struct Load {
+    /// The units that it carries.
     pub(crate) flow: i64,
+    /// The units that it has room for.
     pub(crate) room: i64,
 }
 

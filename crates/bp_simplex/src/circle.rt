@@ -1,3 +1,4 @@
+//! The circle that an entering arc closes with the tree: how much can go round, and which arc leaves the tree for it.
 use crate::arcs::{Load, MUCH, load_at, send};
 use crate::tree::Tree;
 use bp_types::limits::MOST_NODES;
@@ -5,24 +6,32 @@ use bp_types::limits::MOST_NODES;
 /// The circle that an arc from `first` to `second` closes with the tree.
 #[derive(Clone, Copy)]
 pub(crate) struct Circle {
+    /// The node from which units go over the entering arc.
     pub(crate) first: u32,
+    /// The node to which they go.
     pub(crate) second: u32,
+    /// Where the ways of both up the tree meet.
     pub(crate) join: u32,
     /// How many units can go round.
     pub(crate) units: i64,
+    /// The arc that leaves the tree, or none.
     pub(crate) leaves: Leaves,
 }
 
 /// Which arc has room for no more: the entering one, or the one above a node of a side.
 #[derive(Clone, Copy)]
 pub(crate) enum Leaves {
+    /// The entering arc, which goes to its other bound.
     Entering,
+    /// The arc above this node, on the way of the first.
     First { out: u32 },
+    /// The arc above this node, on the way of the second.
     Second { out: u32 },
 }
 
 impl Circle {
-    /// Walks to where the sides meet. The last arc of the circle that has the least room leaves (Cunningham's rule).
+    /// Walks to where the sides meet. The last arc of the circle that has the least room leaves (Cunningham's rule). It
+    /// takes the time of the circle's arcs.
     pub(crate) fn of(tree: &Tree, loads: &[Load], first: u32, second: u32, room: i64) -> Circle {
         let mut near = first;
         let mut far = second;

@@ -1,3 +1,4 @@
+//! The network simplex itself: what it begins with, its pivots, and what it tells.
 use crate::arcs::{Arc, Load, MUCH, State, arc_at, load_at, send, set_state};
 use crate::circle::{Circle, Leaves};
 use crate::rates::by_rate;
@@ -16,8 +17,9 @@ const MOST_ARCS: usize = MOST_STAYS + MOST_NIGHTS;
 /// No potential is greater, in minor units of money.
 const MOST_LEVEL: i64 = 1_000_000_000_000;
 
-/// A network simplex on the line of nights: arcs of the stays, and then a free arc for each night. Its arcs and nodes
-/// have the numbers that they have in the interval network.
+/// A network simplex on the line of nights, by Cunningham's rule: arcs of the stays, and then a free arc for each
+/// night. Its arcs and nodes have the numbers that they have in the interval network. Nothing is claimed of what it
+/// tells; of an arc or a node that there is not it tells some number.
 #[derive(Drop)]
 pub struct Simplex {
     arcs: Vec<Arc>,
@@ -73,7 +75,8 @@ fn block_size(count: usize) -> usize {
 }
 
 impl Simplex {
-    /// Nothing is sold, and all rooms are spare.
+    /// A simplex that has not run: nothing is sold, all rooms are spare, and the tree is the line of nights. All its
+    /// memory is taken here; the one error is `Memory`.
     pub fn new(alloc: Global, instance: &Instance) -> Result<Simplex, Memory> {
         let stays = instance.stays();
         let nights = instance.nights();
@@ -238,7 +241,8 @@ impl Simplex {
         None
     }
 
-    /// Lets each stay enter once, and pivots then until no arc violates optimality, or too often.
+    /// Lets each stay enter once, and pivots then until no arc violates optimality, or too often: more than 64 pivots
+    /// an arc are not made. It takes no memory.
     pub fn run(&mut self) {
         let pivots = self.arcs.len().saturating_mul(PIVOTS);
         self.run_for(pivots);
@@ -265,7 +269,7 @@ impl Simplex {
         level_at(self.tree.spots(), node).clamp(0, MOST_LEVEL) as u64
     }
 
-    /// What an arc carries, in units.
+    /// What an arc carries, in units: sold of a stay, spare on a night.
     pub fn carries(&self, arc: u32) -> u64 {
         load_at(&self.loads, arc).flow.clamp(0, MOST_UNITS as i64) as u64
     }
@@ -276,7 +280,8 @@ impl Simplex {
         (here.arc, here.up)
     }
 
-    /// A number that falls along each way.
+    /// A number that falls along each way: the greatest u32, less the size of the piece of the tree below the node,
+    /// itself counted.
     pub fn rank(&self, node: u32) -> u32 {
         u32::MAX.wrapping_sub(self.tree.node(node).size)
     }

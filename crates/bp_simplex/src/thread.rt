@@ -1,17 +1,25 @@
+//! The thread: all nodes in a row, each before those below it in the tree, with their potentials.
+
 /// A node's potential, and its neighbours on the thread: the nodes in an order that has each before those below it,
 /// so that a piece is a run of the thread.
 #[derive(Clone, Copy)]
 pub(crate) struct Spot {
+    /// The potential above the last node's, in minor units of money.
     pub(crate) level: i64,
+    /// The node behind it.
     pub(crate) next: u32,
+    /// The node before it.
     pub(crate) before: u32,
 }
 
-/// A run of the thread: its last node, how many it has, and the node behind it.
+/// A run of the thread.
 #[derive(Clone, Copy)]
 pub(crate) struct Run {
+    /// Its last node.
     pub(crate) last: u32,
+    /// How many nodes it has.
     pub(crate) count: u32,
+    /// The node behind its last one.
     pub(crate) behind: u32,
 }
 
@@ -39,7 +47,7 @@ pub(crate) fn level_at(spots: &[Spot], node: u32) -> i64 {
     }
 }
 
-/// Adds to the potentials of so many nodes from one on, or of fewer where `end` comes before.
+/// Adds to the potentials of so many nodes from one on, or of fewer where `end` comes before; answers the run of them.
 pub(crate) fn raise(spots: &mut [Spot], start: u32, most: u32, end: u32, by: i64) -> Run {
     let mut run = Run {
         last: start,

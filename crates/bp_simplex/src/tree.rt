@@ -1,3 +1,4 @@
+//! The tree of arcs with parents and sizes, and how a pivot hangs a piece of it anew.
 use crate::arcs::Arc;
 use crate::thread::{Spot, level_at, link, raise, spot_at};
 use bp_types::Memory;
@@ -7,13 +8,16 @@ use std::alloc::Global;
 /// No node.
 const NONE: u32 = u32::MAX;
 
-/// A node of the tree: its parent, the arc to it and whether that leads up, and how many nodes the piece below has,
-/// itself counted.
+/// A node of the tree.
 #[derive(Clone, Copy)]
 pub(crate) struct Node {
+    /// The node above it; `NONE` of the root.
     pub(crate) parent: u32,
+    /// The arc between the two.
     pub(crate) arc: u32,
+    /// Whether the arc leads from the node to the one above.
     pub(crate) up: bool,
+    /// How many nodes the piece of the tree below has, itself counted.
     pub(crate) size: u32,
 }
 
@@ -29,11 +33,17 @@ pub(crate) struct Tree {
 /// How a piece is cut off above `out`, and hung on `parent` by its node `inside`; both ways lead to `join`.
 #[derive(Clone, Copy)]
 pub(crate) struct Exchange {
+    /// The end of the entering arc within the piece.
     pub(crate) inside: u32,
+    /// Its other end.
     pub(crate) parent: u32,
+    /// The entering arc.
     pub(crate) arc: u32,
+    /// Whether it leads from `inside` to `parent`.
     pub(crate) up: bool,
+    /// The node below the leaving arc.
     pub(crate) out: u32,
+    /// Where both ways up the tree meet.
     pub(crate) join: u32,
     /// What is added to the potentials of the piece.
     pub(crate) by: i64,
@@ -131,7 +141,8 @@ fn turn(nodes: &mut [Node], spots: &mut [Spot], by: Exchange, size: u32) -> (u32
 }
 
 impl Tree {
-    /// The line of so many nights, whose arcs are numbered from `first` on.
+    /// The line of so many nights, whose arcs are numbered from `first` on, rooted at the last node. The one error is
+    /// `Memory`.
     pub(crate) fn line(alloc: Global, nights: u32, first: u32) -> Result<Tree, Memory> {
         let mut nodes = Vec::new(alloc);
         let mut spots = Vec::new(alloc);
@@ -167,12 +178,13 @@ impl Tree {
         node_at(&self.nodes, number)
     }
 
-    /// The potential of each node.
+    /// The potential of each node, and its place on the thread.
     pub(crate) fn spots(&self) -> &[Spot] {
         &self.spots
     }
 
-    /// Takes the arc above `out` out of the tree, and another in.
+    /// Takes the arc above `out` out of the tree, and another in. It walks the piece that moves, and both ways up to
+    /// `join`.
     pub(crate) fn exchange(&mut self, by: Exchange) {
         let out = self.node(by.out);
         let size = out.size;

@@ -20,6 +20,7 @@ type Case = (
     &'static [u64],
 );
 
+/// No room, no stay, a forecast above the rooms, and the instance with four stays.
 const CASES: [Case; 4] = [
     (&[0], &[(0, 1, 100, 1)], 0, &[0], &[100]),
     (&[1, 1, 1], &[], 0, &[], &[0, 0, 0]),
@@ -66,6 +67,7 @@ fn the_longest_and_dearest_stay(rt: HostRuntime) -> Result<(), Fail> {
     Ok(())
 }
 
+/// Takes so many units of one night, where it has them; answers whether it did.
 fn lowered<L: Ledger>(solver: &mut Solver, span: Span, units: u64, steps: &mut Steps<L>) -> bool {
     let Span { from, to } = span;
     if from >= to || to > solver.nights() || to - from > 1 || units > solver.rooms(from) {
@@ -75,6 +77,7 @@ fn lowered<L: Ledger>(solver: &mut Solver, span: Span, units: u64, steps: &mut S
     true
 }
 
+/// Sets the forecast of a stay, where both are within their limits; answers whether it did.
 fn demanded<L: Ledger>(solver: &mut Solver, stay: u32, value: u64, steps: &mut Steps<L>) -> bool {
     if stay >= solver.stays() || value > 1_000_000 {
         return false;
@@ -83,6 +86,7 @@ fn demanded<L: Ledger>(solver: &mut Solver, stay: u32, value: u64, steps: &mut S
     true
 }
 
+/// Sets the rate of a stay, where both are within their limits; answers whether it did.
 fn repriced<L: Ledger>(solver: &mut Solver, stay: u32, value: u64, steps: &mut Steps<L>) -> bool {
     if stay >= solver.stays() || value == 0 || value > 1_000_000_000 {
         return false;

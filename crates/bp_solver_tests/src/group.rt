@@ -10,6 +10,7 @@ use std::marker::Brand;
 use std::sync::ledger::{Blank, Ledger};
 use std::test::Fail;
 
+/// The position that each quote is for.
 const POSITION: u64 = 7;
 
 /// One room on each night of a span: the displacement, and the value, sales and prices without those rooms.

@@ -9,10 +9,11 @@ use std::test::Fail;
 /// Arrival, departure, rate and forecast of a stay.
 pub type Row = (u32, u32, u64, u64);
 
+/// Four stays on three nights, of which the first two both want the second night.
 pub const FOUR_STAYS: [Row; 4] = [(0, 2, 100, 3), (1, 3, 150, 1), (0, 1, 60, 1), (2, 3, 40, 5)];
 
-/// A change of the instance with four stays, and the value, sales and prices after it, with the searches that
-/// a restart may count.
+/// A change of the instance with four stays, and the value, sales and prices after it, with the searches that a restart
+/// may count.
 pub const RESTARTS: [(Change, u128, [u64; 4], [u64; 3], u128); 3] = [
     (
         Change::Rooms {
@@ -44,6 +45,7 @@ pub const RESTARTS: [(Change, u128, [u64; 4], [u64; 3], u128); 3] = [
     ),
 ];
 
+/// The stays of these rows.
 fn stays_of(alloc: Global, rows: &[Row]) -> Result<Vec<Stay>, Memory> {
     let mut stays = Vec::new(alloc);
     for (from, to, rate, forecast) in rows {

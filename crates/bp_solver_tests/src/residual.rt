@@ -5,14 +5,17 @@ use std::alloc::Global;
 use std::process::Abort;
 use std::test::Fail;
 
+/// Two stays on two nights.
 const TWO_STAYS: [Row; 2] = [(0, 2, 90, 2), (1, 2, 40, 1)];
 
+/// The flow of these stays that sells nothing.
 fn empty_flow(alloc: Global) -> Result<Flow, Fail> {
     let instance = instance_of(alloc, &[3, 5], &TWO_STAYS)?;
     let flow = Flow::empty(alloc, instance)?;
     Ok(flow)
 }
 
+/// A copy of it.
 fn copied(alloc: Global) -> Result<Flow, Fail> {
     let flow = empty_flow(alloc)?;
     let copy = flow.copy(alloc)?;
@@ -31,6 +34,7 @@ fn an_empty_flow_and_its_copy(rt: HostRuntime) -> Result<(), Fail> {
     Ok(())
 }
 
+/// Wants the arcs of the network, and the hops of its nodes.
 fn expect_arcs_and_hops<R: Abort>(rt: &R, flow: &Flow) {
     if flow.arcs() != 4 || flow.nights() != 2 {
         assert!(rt; false, "two stays and two nights");
@@ -56,6 +60,7 @@ fn expect_arcs_and_hops<R: Abort>(rt: &R, flow: &Flow) {
     assert!(rt; hops == [hop(1, true), hop(2, false), hop(3, true)].as_slice());
 }
 
+/// An arc, forward or backward.
 fn hop(arc: u32, forward: bool) -> Hop {
     Hop { arc, forward }
 }

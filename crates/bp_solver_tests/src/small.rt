@@ -18,6 +18,7 @@ fn digits(number: u64, base: u64) -> [u64; 3] {
     ]
 }
 
+/// How many units a stay takes of a night, where so many are sold.
 fn takes(row: &Row, night: usize, units: u64) -> u64 {
     if row.0 as usize <= night && night < row.1 as usize {
         units
@@ -51,6 +52,7 @@ impl Small<'_> {
         sum
     }
 
+    /// The revenue of an allocation.
     fn worth(&self, sell: [u64; 3]) -> u64 {
         let mut sum = 0u64;
         for (row, units) in self.stays.iter().zip(sell.iter()) {

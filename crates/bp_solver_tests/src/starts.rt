@@ -100,6 +100,7 @@ fn expect_from_each_start<R: Abort>(rt: &R, alloc: Global, small: Small<'_>) -> 
     Ok(())
 }
 
+/// The rates of the stays.
 const RATES: [u64; 2] = [1, 3];
 
 /// One of the eighteen stays of two nights, whose forecast may be 0.

@@ -16,6 +16,7 @@ use std::process::Abort;
 use std::sync::ledger::{Blank, Ledger};
 use std::test::Fail;
 
+/// Whether a night may have so many units more or fewer.
 fn night_takes(instance: &Instance, night: u32, up: bool, units: u64) -> bool
     requires { night < length instance.now.rooms }
     ensures { IsTrue result →
@@ -43,6 +44,7 @@ fn rooms_fit(instance: &Instance, span: Span, up: bool, units: u64) -> bool
     night_takes(instance, span.to - 1, up, units)
 }
 
+/// Whether a change keeps to the limits of an instance.
 fn fits(instance: &Instance, change: Change) -> bool
     ensures { IsTrue result → Fits instance.now change }
 {

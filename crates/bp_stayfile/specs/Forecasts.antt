@@ -29,12 +29,13 @@ with_forecasts list counts = record list { stays = forecasts_set counts list.sta
 abbrev pub forecast_file : StayList → List ℕ → Result StayList TableRefusal
 forecast_file list bytes = counts_file list.codes bytes >>= (λ counts. Ok (with_forecasts list counts))
 
--- the stays after a refusal: the records before the refused one have set their forecasts, and none has where the
--- header is refused
+-- the stays after a refusal: the records before the refused one have set their forecasts, and none has where the header
+-- is refused
 abbrev pub sets_before : Result Table TableRefusal → TableRefusal → StayList → StayList → Type 0
 sets_before (Ok table) e old new =
     (counts : List Counted) × IsRefusedAfter (count_rule old.codes) table counts e × (new ≡ with_forecasts old counts)
 sets_before (Err refusal) e old new = (e ≡ refusal) × (new ≡ old)
 
+-- the same, of the bytes of the file
 abbrev pub SetsBefore : List ℕ → TableRefusal → StayList → StayList → Type 0
 SetsBefore bytes e old new = sets_before (table_of count_columns bytes) e old new

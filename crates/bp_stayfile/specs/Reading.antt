@@ -5,6 +5,7 @@ use Rattle.bp_stayfile.specs.declared.error.TableRefusal.{TableRefusal}
 use Rattle.bp_stayfile.specs.declared.error.TableRefusal.TheVariants.{NotCsv}
 use Rattle.bp_stayfile.specs.Tables.{Record, Table}
 
+-- rows that each say something of one kind
 module _ {A : Type 0} where
   -- what the first n rows say, by a rule that is told what the rows before a row said
   abbrev pub rows_read : (List A → Record → Result A TableRefusal) → List Record → ℕ → Result (List A) TableRefusal

@@ -23,7 +23,8 @@ records_in state (Some bytes) = records_from default_config (length bytes + 1) s
 abbrev pub records_left : Reader (Bor (List ℕ)) → List Record
 records_left r = records_in r.state (bytes_left r)
 
--- a reader by the defaults, but that records may differ in length and that a header is a record; it stands between records
+-- a reader by the defaults, but that records may differ in length and that a header is a record; it stands between
+-- records
 pub record IsReading (r : Reader (Bor (List ℕ))) : Type 0 where
   pub config : r.config ≡ default_config
   pub trim : r.trim ≡ trim.None

@@ -35,9 +35,11 @@ stay_in season codes row =
 abbrev pub Coded : Type 0
 Coded = List ℕ × Stay
 
+-- their codes
 abbrev pub codes_of : List Coded → List (List ℕ)
 codes_of = map (λ c. c.0)
 
+-- the stays without their codes
 abbrev pub stays_of : List Coded → List Stay
 stays_of = map (λ c. c.1)
 

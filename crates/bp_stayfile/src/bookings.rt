@@ -1,3 +1,4 @@
+//! The bookings file: the rooms that are sold of each night.
 ghost use Rattle.std.specs.Prelude.{
   ◌≡◌,
   ◌<◌,
@@ -44,6 +45,7 @@ fn add(sold: &mut [u64], span: Span, rooms: u64)
     }
 }
 
+/// No room sold on any night.
 fn nothing_sold(alloc: Global, nights: u32) -> Result<Vec<u64>, Memory>
     ensures { IfOk result (λ v. (length v.items ≡ nights) × ((n : ℕ) → slice_index v.items n ≡ 0)) }
 {
@@ -82,7 +84,8 @@ fn overbooked(hotel: &Hotel, sold: &[u64]) -> Option<u32>
     None
 }
 
-/// The rooms that the bookings of a bookings file take of each night, in whole rooms.
+/// The rooms that the bookings of a bookings file take of each night, in whole rooms, or the first thing that is wrong
+/// with the file. Beside that of reading, its time grows with the nights of all stays.
 ///
 /// The stays are this hotel's: they are within as many nights as it has.
 pub fn read_bookings(

@@ -8,7 +8,7 @@ use bp_hotelfile::DateError;
 use bp_types::Span;
 use bp_types::limits::{MOST_RATE, MOST_STAYS};
 
-/// A code, whether or not a stay has it.
+/// A code, whether or not a stay has it; else `Code`.
 pub fn code_in(line: u64, text: &str) -> Result<(), TableRefusal>
     ensures { result ≡ code_in line text.now }
 {
@@ -19,14 +19,14 @@ pub fn code_in(line: u64, text: &str) -> Result<(), TableRefusal>
     }
 }
 
-/// A number.
+/// A number of 1 to 18 decimal digits; else `Number`.
 pub fn number_in(line: u64, text: &str) -> Result<u64, TableRefusal>
     ensures { result ≡ number_in line text.now }
 {
     number_of(text).ok_or(TableRefusal::Number { line })
 }
 
-/// A date, whether or not it is one of the hotel's nights.
+/// A date, whether or not it is one of the hotel's nights; else `Date`.
 pub fn date_in(line: u64, night: Result<u32, DateError>) -> Result<(), TableRefusal>
     ensures { result ≡ date_in line night }
 {
@@ -36,7 +36,7 @@ pub fn date_in(line: u64, night: Result<u32, DateError>) -> Result<(), TableRefu
     }
 }
 
-/// The nights from an arrival, all of them within the hotel's.
+/// The nights from an arrival, so many of them and all within the hotel's, of which there are `total`; else `Outside`.
 pub fn span_in(
     line: u64,
     total: u32,

@@ -1,3 +1,4 @@
+//! The codes of a hotel's stays.
 ghost use Rattle.std.specs.Prelude.{◌≡◌, ◌<◌, ◌++◌, ◌∷◌, [], length, slice_index_or, OnOk, IfOk, None};
 ghost use Rattle.bp_stayfile.specs.Codes.{stay_with, IsCodes};
 
@@ -27,6 +28,7 @@ impl Model for Codes {
 }
 
 impl Codes {
+    /// No codes.
     pub(crate) fn new(alloc: Global) -> Codes
         ensures { result ≡ [] }
     {
@@ -43,7 +45,7 @@ impl Codes {
         self.codes.len() as u32
     }
 
-    /// The stay that has this code, if one has.
+    /// The stay that has this code, if one has; stays are numbered from 0.
     pub fn find(&self, code: &str) -> Option<u32>
         ensures { result ≡ stay_with self.now code.now }
     {

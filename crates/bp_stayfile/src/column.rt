@@ -1,3 +1,4 @@
+//! The columns of the tables, by their names.
 ghost use Rattle.std.specs.Prelude.{◌≡◌};
 ghost use Rattle.bp_stayfile.specs.Columns.{column_text};
 

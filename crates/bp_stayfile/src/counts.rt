@@ -1,3 +1,4 @@
+//! The rows of a forecast or a bookings file: a count for each stay that is named.
 ghost use Rattle.std.specs.Prelude.{
   ◌≡◌,
   ◌<◌,
@@ -30,15 +31,19 @@ use bp_types::Memory;
 use bp_types::limits::MOST_FORECAST;
 use std::alloc::Global;
 
+/// The columns of both files.
 const COLUMNS: [Column; 2] = [Column::Code, Column::Count];
 
 /// What a row of a forecast or a bookings file says of a stay.
 #[derive(Clone, Copy)]
 pub(crate) struct Counted {
+    /// The stay that its code names, counted from 0.
     pub stay: u32,
+    /// Units of a forecast, or bookings.
     pub count: u64,
 }
 
+/// A count within its limit.
 fn count_in(line: u64, counted: Counted) -> Result<Counted, TableRefusal>
     ensures { result ≡ count_in line counted }
 {

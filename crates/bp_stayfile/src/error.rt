@@ -1,3 +1,4 @@
+//! Why a table is refused, and why it gives nothing.
 ghost use Rattle.std.specs.Prelude.{◌≡◌};
 ghost use Rattle.bp_stayfile.specs.declared.error.TableError.TheVariants.{Refused, Memory as NoMemory};
 
@@ -22,6 +23,7 @@ pub enum TableRefusal {
     /// No stay has this code.
     #[error("line {line} has a code that no stay has")]
     NoCode { line: u64 },
+    /// It is not ten characters, as 2025-07-01, of a day that the calendar has.
     #[error("line {line} has no date")]
     Date { line: u64 },
     /// It is not 1 to 18 decimal digits.

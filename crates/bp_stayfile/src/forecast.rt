@@ -1,3 +1,4 @@
+//! The forecast file: how many are expected to ask for each stay.
 ghost use Rattle.std.specs.Prelude.{◌≡◌, MatchOption, OnOk, IfOk, IfErr, Ok, Err};
 ghost use Rattle.bp_stayfile.specs.Forecasts.{forecast_file, SetsBefore};
 ghost use Rattle.bp_stayfile.specs.Refusals.{IfRefused};
@@ -19,7 +20,7 @@ fn refusal_of(outcome: Result<(), TableError>) -> Result<Option<TableRefusal>, M
     }
 }
 
-/// Sets the forecasts that a forecast file names, in units.
+/// Sets the forecasts that a forecast file names, in units, or says the first thing that is wrong with the file.
 ///
 /// Where a record is refused, those before it have set theirs; where the header is refused or there is no memory, none
 /// is set.

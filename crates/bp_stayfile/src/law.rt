@@ -1,5 +1,4 @@
 //! Laws over the definitions, as the contracts of functions that do nothing.
-
 ghost use Rattle.bp_stayfile.specs.Laws.{FilesGiveStays, ForecastsKeepLimits, BookingsFit, HousesAreInLimits};
 
 /// What a stays file says keeps to every limit, within the nights of its hotel.

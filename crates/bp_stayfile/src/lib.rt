@@ -1,7 +1,7 @@
 //! The tables of a hotel: its stays, their forecasts, and the bookings on file.
 //!
-//! Tables are CSV with a header. Nights are numbered from 0, money is in minor units, forecasts are in
-//! units of the house, and rooms sold are whole rooms.
+//! Tables are CSV with a header. Nights are numbered from 0, money is in minor units, forecasts are in units of the
+//! house, and rooms sold are whole rooms.
 //!
 //! The rows of a table, one by one.
 //!

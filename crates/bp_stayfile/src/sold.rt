@@ -1,3 +1,4 @@
+//! The rooms that are sold of each night.
 ghost use Rattle.std.specs.Prelude.{◌≡◌};
 
 use std::marker::Model;

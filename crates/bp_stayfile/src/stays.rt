@@ -1,3 +1,4 @@
+//! The stays of a hotel with their codes.
 ghost use Rattle.std.specs.Prelude.{◌≡◌, IfOk, List, None, length, map, slice_index_or};
 ghost use Rattle.std.specs.List.{range_with_len};
 ghost use Rattle.bp_types.specs.Program.{no_stay};
@@ -87,7 +88,7 @@ impl Stays {
         set_each(&mut self.stays, counts);
     }
 
-    /// The same stays with the same codes.
+    /// The same stays with the same codes. The one error is `Memory`.
     pub fn copy(&self, alloc: Global) -> Result<Stays, Memory>
         ensures { IfOk result (λ s. s ≡ self.now) }
     {

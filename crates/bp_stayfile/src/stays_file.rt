@@ -1,3 +1,4 @@
+//! The stays file: a code, an arrival, a number of nights and a rate for each stay.
 ghost use Rattle.std.specs.Prelude.{◌≡◌, ◌+◌, length, IfOk, IfErr, Ok, Err};
 ghost use Rattle.bp_stayfile.specs.Refusals.{IfRefused};
 ghost use Rattle.bp_stayfile.specs.Stays.{stay_in, stay_columns, stays_under, stays_file};
@@ -10,6 +11,7 @@ use bp_hotelfile::Hotel;
 use bp_types::Stay;
 use std::alloc::Global;
 
+/// The columns of the file.
 const COLUMNS: [Column; 4] = [Column::Code, Column::Arrival, Column::Nights, Column::Rate];
 
 /// The stay of a row, after as many codes as there are rows before it.
@@ -72,7 +74,8 @@ fn stay_header(alloc: Global, bytes: &[u8]) -> Result<Row<'_>, TableError>
     header(alloc, bytes, &COLUMNS)
 }
 
-/// The stays of a stays file, in the order of the file, or the first thing that is wrong.
+/// The stays of a stays file, in the order of the file, or the first thing that is wrong with it. Rates are for the
+/// whole stay, in minor units of money.
 ///
 /// Nothing is forecast for them yet.
 pub fn read_stays(alloc: Global, hotel: &Hotel, bytes: &[u8]) -> Result<Stays, TableError>

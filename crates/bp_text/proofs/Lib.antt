@@ -10,8 +10,9 @@
 
 -- numbers and their digits
 pub mod NumberLemmas
--- lines and words, told from their bytes
+-- lines of words and numbers, told from their bytes
 pub mod LineLemmas
+-- lines of words: what is joined can be told apart
 pub mod WordLemmas
 -- the numbers on a line, found from left to right
 pub mod FormLemmas
@@ -19,12 +20,15 @@ pub mod FormLemmas
 pub mod NextLemmas
 -- no line has an end in it
 pub mod EndLemmas
--- from a refused line to the text that it stands in, and from its lines to its bytes
+-- from a refused line to the text that it stands in
 pub mod StageLemmas
+-- a kind of text whose reading goes row by row
 pub mod KindLemmas
+-- from the lines of a text to its bytes
 pub mod WholeLemmas
--- texts told apart, and read in one way
+-- texts told apart: one spelling, and none behind another
 pub mod SpellingLemmas
+-- bytes are read as a text in one way
 pub mod OneWayLemmas
 -- texts written as they are spelt
 pub mod DraftLemmas

@@ -37,6 +37,7 @@ use Rattle.std.proofs.Common.{
 use Rattle.std.specs.Fmt.{decimal}
 use Rattle.std.specs.Int.Digits.{digits_of, number_from_digits, number_from_digits_after, AllBelowBase}
 use Rattle.std.proofs.Math.ListN.{length-map}
+use Rattle.std.proofs.Math.Nat.{pow-suc, pow-le-pow_right}
 use Rattle.std.proofs.lemmas.Bool.{cases_lt, cond-false, ne_eqb}
 use Rattle.std.proofs.lemmas.List.{get_or-map, take_more, take_all, map-append}
 use Rattle.std.proofs.lemmas.Fmt.{decimal_by_steps_wide}
@@ -256,6 +257,22 @@ digits_are_read bytes greatest i value past digits so_far =
         → MatchOption value (AllDigits 10 bytes × (greatest < digits_value 10 bytes)) (λ n. AllDigits 10 bytes × (n ≡ digits_value 10 bytes) × (n ≤ greatest))
     by_value None so_far all same = (all, omega (arith, so_far, same))
     by_value (Some n) so_far all same = (all, so_far.0 ∙ same, so_far.1)
+
+-- the number that digits write, with one of them more
+pub next_digit : (bytes : List ℕ) (i d : ℕ) → i < length bytes → d ≡ slice_index bytes i - 48 →
+    number_from_digits 10 (take (i + 1) (map (λ b. b - 48) bytes)) ≡ number_from_digits 10 (take i (map (λ b. b - 48) bytes)) * 10 + d
+next_digit bytes i d here is =
+    let ds = map (λ b. b - 48) bytes in
+    number_more 10 ds i (omega (arith, here, length-map bytes (λ b. b - 48))) ∙
+    ap (λ x. number_from_digits 10 (take i ds) * 10 + x) (get_or-map (λ b. b - 48) bytes i 0 0 here ∙ sym is)
+
+-- so few digits write a small number, and one digit more a number below the next power of ten
+pub few_are_small : (i n : ℕ) → i ≤ 17 → n < 10 ^ i → n < 10 ^ 17
+few_are_small i n few small = omega (arith, small, pow-le-pow_right {n = 10} (omega arith) few)
+
+pub one_more_digit : (i n d : ℕ) → n < 10 ^ i → d < 10 → n * 10 + d < 10 ^ (i + 1)
+one_more_digit i n d small digit = let next : i + 1 ≡ suc i = omega arith in
+    omega (arith, small, digit, ap (λ k. 10 ^ k) next ∙ pow-suc 10 i)
 
 -- a word that has no zero before its number is read as its digits are
 pub word_is_read : (word : List ℕ) (greatest : ℕ) (r : Number) → 0 < length word → (1 < length word → slice_index word 0 ≡ 48 → ⊥) →

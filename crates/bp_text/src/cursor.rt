@@ -4,6 +4,7 @@ ghost use Rattle.bp_text.specs.Lines.{Given, HasNoEnd, GivesLine};
 
 use std::marker::Model;
 
+/// The byte that ends each line.
 pub(crate) const LINE_END: u8 = 10;
 
 /// The lines of a text, given one by one.
@@ -28,7 +29,7 @@ impl<'a> Model for Lines<'a> {
 }
 
 impl<'a> Lines<'a> {
-    /// The lines of this text, none of them given.
+    /// The lines of this text, none of them given. It takes no memory.
     pub fn new(bytes: &'a [u8]) -> Lines<'a>
         ensures { result ≡ record { bytes = bytes.now; given = 0; rest = bytes.now } }
     {
@@ -39,7 +40,8 @@ impl<'a> Lines<'a> {
         }
     }
 
-    /// The next line, without its end, where it has one.
+    /// The next line, without its end; None where no end is left, and then nothing is given. It takes the time of the
+    /// line.
     pub fn take_line(&mut self) -> Option<&'a [u8]>
         ensures { MatchOption result ((self.new ≡ self.old) ×
             HasNoEnd self.old.rest) (λ line. GivesLine self.old self.new line.now) }
@@ -62,7 +64,7 @@ impl<'a> Lines<'a> {
         self.given
     }
 
-    /// What is left after the lines that were given.
+    /// The bytes that are left after the lines that were given.
     pub fn rest(&self) -> &'a [u8]
         ensures { result.now ≡ self.now.rest }
     {

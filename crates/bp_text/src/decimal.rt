@@ -1,9 +1,12 @@
-//! Decimal digits, one by one: the one loop over them.
-ghost use Rattle.std.specs.Prelude.{◌≡◌, ◌≢◌, ℕ, ◌+◌, ◌*◌, ◌<◌, ◌≤◌};
+//! Decimal digits, one by one: a loop for the few of nearly every number, and one for any.
+ghost use Rattle.std.specs.Prelude.{◌≡◌, ◌≢◌, ℕ, ◌+◌, ◌*◌, ◌<◌, ◌≤◌, length};
 ghost use Rattle.std.specs.Option.{ForSome, SomeIff};
 ghost use Rattle.bp_text.specs.Numbers.{IsReadAs, AreReadAs, IsGreaterBy};
 
 use crate::found::Number;
+
+/// So many digits are below 10^18, and one more fits a machine word.
+const FEW: usize = 18;
 
 /// Reads a word as a number up to a greatest one.
 #[tactic(auto, using(crate::proofs::NumberLemmas::zero_before, crate::proofs::NumberLemmas::nothing_is_no_number))]
@@ -21,6 +24,36 @@ pub fn number(word: &[u8], greatest: u128) -> Number
 
 /// Reads decimal digits as a number up to a greatest one; no digits are 0. Zeros may stand in front.
 pub fn digits(bytes: &[u8], greatest: u128) -> Number
+    ensures { AreReadAs bytes.now greatest result }
+{
+    if bytes.len() <= FEW {
+        few_digits(bytes, greatest)
+    } else {
+        many_digits(bytes, greatest)
+    }
+}
+
+/// Reads so few digits that their number is a machine word, whatever they are.
+fn few_digits(bytes: &[u8], greatest: u128) -> Number
+    requires { length bytes.now ≤ 18 }
+    ensures { AreReadAs bytes.now greatest result }
+{
+    let mut value: u64 = 0;
+    for byte in bytes {
+        if *byte < b'0' || *byte > b'9' {
+            return Number::Bad;
+        }
+        value = value * 10 + u64::from(*byte - b'0');
+    }
+    let value = u128::from(value);
+    if value > greatest {
+        return Number::Great;
+    }
+    Number::Value(value)
+}
+
+/// Reads as many digits as there are.
+fn many_digits(bytes: &[u8], greatest: u128) -> Number
     ensures { AreReadAs bytes.now greatest result }
 {
     let mut value = Some(0);

@@ -8,6 +8,7 @@ ghost use Rattle.bp_text.specs.Drafts.{Drafts};
 
 use crate::cursor::LINE_END;
 use crate::numbers::SPACE;
+use crate::spaced::{MOST_SPACED, spell_spaced};
 use bp_edges::{MOST_PIECE, Sink, WriteError};
 use itoa::Buffer;
 use std::alloc::{AllocError, Global};
@@ -15,7 +16,8 @@ use std::marker::Model;
 
 /// What of a text is spelt and not yet written, at most one piece.
 ///
-/// Contracts see its bytes.
+/// Contracts see its bytes. After an error of a call that is given a sink, a first part of the text is written:
+/// `Failed` comes of the sink alone, `Memory` where there was none.
 #[derive(Drop)]
 pub struct Draft {
     bytes: Vec<u8>,
@@ -33,7 +35,8 @@ impl Model for Draft {
 }
 
 impl Draft {
-    /// A draft with nothing in it. It takes the memory of one piece, and no more afterwards.
+    /// A draft with nothing in it. It takes the memory of one piece, and no more afterwards; the one error is want of
+    /// memory.
     pub fn new(alloc: Global) -> Result<Draft, AllocError>
         ensures { IfOk result (λ draft. draft ≡ []) }
     {
@@ -42,7 +45,24 @@ impl Draft {
     }
 
     /// Puts bytes behind the draft, and hands it on each time that it is full.
+    #[inline]
     pub fn push<K: Sink>(&mut self, bytes: &[u8], out: &mut K) -> Result<(), WriteError>
+        ensures writes { Drafts (K.written out.old) (K.written out.new) self.old self.new bytes.now result }
+        ensures failed { IsErrOf result WriteError.Failed → Rose (K.faults out.old) (K.faults out.new) }
+        ensures unfailing { K.steady out.old → ¬ IsErrOf result WriteError.Failed }
+        ensures steady { K.steady out.old → K.steady out.new }
+        ensures faults { K.faults out.old ≤ K.faults out.new }
+    {
+        if bytes.len() > MOST_PIECE - self.bytes.len() {
+            return self.push_in_pieces(bytes, out);
+        }
+        self.bytes.extend_from_slice(bytes)?;
+        Ok(())
+    }
+
+    /// Puts bytes behind the draft that may have no room for all of them, apart so that the test is inlined.
+    #[inline(never)]
+    fn push_in_pieces<K: Sink>(&mut self, bytes: &[u8], out: &mut K) -> Result<(), WriteError>
         ensures writes { Drafts (K.written out.old) (K.written out.new) self.old self.new bytes.now result }
         ensures failed { IsErrOf result WriteError.Failed → Rose (K.faults out.old) (K.faults out.new) }
         ensures unfailing { K.steady out.old → ¬ IsErrOf result WriteError.Failed }
@@ -60,7 +80,7 @@ impl Draft {
         Ok(())
     }
 
-    /// Puts a number behind the draft.
+    /// Puts a number behind the draft, in decimal digits.
     pub fn push_number<K: Sink>(&mut self, number: u128, out: &mut K) -> Result<(), WriteError>
         ensures writes { Drafts (K.written out.old) (K.written out.new) self.old self.new (spelled number) result }
         ensures failed { IsErrOf result WriteError.Failed → Rose (K.faults out.old) (K.faults out.new) }
@@ -84,6 +104,19 @@ impl Draft {
         self.push_number(number, out)
     }
 
+    /// Puts a machine word behind the draft, and one space before it, both at once.
+    fn push_spaced_word<K: Sink>(&mut self, number: u64, out: &mut K) -> Result<(), WriteError>
+        ensures writes { Drafts (K.written out.old) (K.written out.new) self.old self.new (32 ∷ spelled number) result }
+        ensures failed { IsErrOf result WriteError.Failed → Rose (K.faults out.old) (K.faults out.new) }
+        ensures unfailing { K.steady out.old → ¬ IsErrOf result WriteError.Failed }
+        ensures steady { K.steady out.old → K.steady out.new }
+        ensures faults { K.faults out.old ≤ K.faults out.new }
+    {
+        let mut bytes = [SPACE; MOST_SPACED];
+        let start = spell_spaced(number, &mut bytes);
+        self.push(&bytes[start..], out)
+    }
+
     /// Puts numbers behind the draft, each behind one space.
     pub fn push_numbers<K: Sink>(&mut self, numbers: &[u64], out: &mut K) -> Result<(), WriteError>
         ensures writes { Drafts (K.written out.old) (K.written out.new) self.old self.new (numbers_text numbers.now)
@@ -94,7 +127,7 @@ impl Draft {
         ensures faults { K.faults out.old ≤ K.faults out.new }
     {
         for number in numbers {
-            self.push_spaced(u128::from(*number), out)?;
+            self.push_spaced_word(*number, out)?;
         }
         Ok(())
     }

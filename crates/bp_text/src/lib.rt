@@ -1,8 +1,7 @@
 //! Texts of lines: each line is a word and numbers, apart by one space, and ends with the byte 10.
 //!
 //! To read: `Lines` gives the lines of a text one by one, the readers of `read` take the next one in a form, and
-//! `Words`
-//! splits a line where several forms may stand. `number` and `digits` read a number.
+//! `Words` splits a line where several forms may stand. `number` and `digits` read a number.
 //!
 //! To write: the spellers put numbers and lines at the end of a `Vec`, and `write_text` hands it to a sink in pieces; a
 //! `Draft` hands a text on as it is spelt, and never holds more than one piece of it.
@@ -12,8 +11,7 @@
 //!     draft.hand_on(out)                                   // what is left
 //!
 //! A new kind of text says which lines spell a value, and which values are within the limits. What its reader answers
-//! is
-//! then `IsText` (`specs/Reading.antt`), and what its proofs cite stands at the head of `proofs/Lib.antt`.
+//! is then `IsText` (`specs/Reading.antt`), and what its proofs cite stands at the head of `proofs/Lib.antt`.
 //!
 //! The words of a line, one by one, numbers up to a greatest among them.
 //!
@@ -31,6 +29,7 @@ mod draft;
 mod found;
 mod numbers;
 mod read;
+mod spaced;
 mod spell;
 mod text_error;
 mod words;

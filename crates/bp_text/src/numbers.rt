@@ -24,9 +24,11 @@ use crate::decimal::number;
 use crate::found::{Bounds, Found, Number};
 use std::alloc::AllocError;
 
+/// The byte between two words of a line.
 pub(crate) const SPACE: u8 = b' ';
 
-/// The numbers behind a word on a line, put in place of what `into` has.
+/// The numbers behind a word on a line, put in place of what `into` has. It takes the time of the line; the one error
+/// is want of memory.
 pub(crate) fn numbers_behind(
     word: &[u8],
     line: &[u8],

@@ -1,4 +1,8 @@
 //! The next line of a text, read in one of its forms.
+//!
+//! Where there is no further end of a line, each reader answers `TooShort`, and nothing is given. Else the line is
+//! given, and a refusal has its number: `BadLine` where it has not the form, `Limit` where it has and a number, or how
+//! many there are, is outside the limits. A reader takes the time of its line.
 ghost use Rattle.std.specs.Prelude.{◌≡◌, ◌≢◌, ◌==◌, ◌+◌, MatchResult, if◌then◌else◌, length, [], ◌∷◌, ◌≤◌, All};
 ghost use Rattle.bp_text.specs.Forms.{IsLine, IsNumberBehind, AreWithin, holding};
 ghost use Rattle.bp_text.specs.Reading.{seen_as};
@@ -9,7 +13,8 @@ use crate::decimal::number;
 use crate::found::{Bounds, Found, Number};
 use crate::numbers::{SPACE, behind, numbers_behind};
 
-/// The next line, which is a word and just as many numbers as there may be.
+/// The next line, which is a word and just as many numbers as there may be; they are put in place of what `into` has.
+/// Another count of numbers is another form, so it is a `BadLine`.
 pub fn exact_line(
     lines: &mut Lines<'_>,
     word: &[u8],
@@ -31,7 +36,8 @@ pub fn exact_line(
     }
 }
 
-/// The next line, which is a word and any number of numbers up to the most.
+/// The next line, which is a word and any number of numbers up to the most; they are put in place of what `into` has.
+/// More of them are outside the limit.
 pub fn open_line(
     lines: &mut Lines<'_>,
     word: &[u8],
@@ -77,7 +83,7 @@ pub fn word_line(lines: &mut Lines<'_>, word: &[u8]) -> Result<(), TextError>
     }
 }
 
-/// The next line, which is a word and one number.
+/// The next line, which is a word and one number, from the least up to the greatest.
 pub fn number_line(
     lines: &mut Lines<'_>,
     word: &[u8],
@@ -96,7 +102,7 @@ pub fn number_line(
     Ok(number)
 }
 
-/// The next line, which is a word and one number of up to 128 bits.
+/// The next line, which is a word and one number of up to 128 bits, up to the greatest.
 pub fn wide_number_line(
     lines: &mut Lines<'_>,
     word: &[u8],
@@ -133,7 +139,7 @@ fn one_number(word: &[u8], line: &[u8], greatest: u128) -> Number
     number(digits, greatest)
 }
 
-/// Whether nothing is left behind the last line.
+/// Whether nothing is left behind the last line; else `Trailing`, with the number of the line after it.
 pub fn at_end(lines: &Lines<'_>) -> Result<(), TextError>
     ensures { MatchResult result (λ _. lines.now.rest ≡ []) (λ e. (e ≡ TextError.Trailing (lines.now.given + 1)) ×
         (lines.now.rest ≢ [])) }

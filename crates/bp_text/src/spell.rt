@@ -1,10 +1,11 @@
-//! Numbers and lines, put at the end of a text.
+//! Numbers and lines, put at the end of a text. The one error of each call is want of memory.
 ghost use Rattle.std.specs.Prelude.{◌≡◌, ◌++◌, ◌∷◌, [], OnOk};
 ghost use Rattle.bp_text.specs.Numbers.{spelled};
 ghost use Rattle.bp_text.specs.Lines.{line_of, numbers_text, text_of};
 
 use crate::cursor::LINE_END;
 use crate::numbers::SPACE;
+use crate::spaced::{MOST_SPACED, spell_spaced};
 use itoa::Buffer;
 use std::alloc::AllocError;
 
@@ -21,9 +22,10 @@ pub fn push_number(text: &mut Vec<u8>, number: u128) -> Result<(), AllocError>
 pub fn push_numbers(text: &mut Vec<u8>, numbers: &[u64]) -> Result<(), AllocError>
     ensures { OnOk result (text.new.items ≡ text.old.items ++ numbers_text numbers.now) }
 {
+    let mut bytes = [SPACE; MOST_SPACED];
     for number in numbers {
-        text.push(SPACE)?;
-        push_number(text, u128::from(*number))?;
+        let start = spell_spaced(*number, &mut bytes);
+        text.extend_from_slice(&bytes[start..])?;
     }
     Ok(())
 }

@@ -12,8 +12,7 @@ use std::marker::Model;
 /// The words of a line, apart by one space each, given one by one.
 ///
 /// Contracts see the words that were not given yet. A line has one word more than spaces, so a space at an end or
-/// beside
-/// another stands next to an empty word.
+/// beside another stands next to an empty word.
 #[derive(Drop)]
 pub struct Words<'a> {
     text: &'a [u8],
@@ -49,7 +48,7 @@ impl<'a> Words<'a> {
         }
     }
 
-    /// The next word; None where each was given.
+    /// The next word; None where each was given. It takes the time of the word.
     pub fn next(&mut self) -> Option<&'a [u8]>
         ensures { MatchOption result ((self.old ≡ []) × (self.new ≡ [])) (λ w. self.old ≡ w.now ∷ self.new) }
     {

@@ -1,5 +1,4 @@
 //! Problems and certificates: each refusal at its line, what is written, and each verdict.
-
 use crate::lines::{text_of, text_with};
 use bp_cert::{TextError, Verdict, check, read_certificate, read_problem, write_certificate};
 use bp_edges::MemorySink;
@@ -7,6 +6,7 @@ use bp_types::{Certificate, Instance};
 use std::alloc::{AllocError, Global};
 use std::test::Fail;
 
+/// The lines of a problem of three nights and four stays.
 const PROBLEM: [&str; 9] = [
     "problem 1",
     "nights 3",
@@ -19,6 +19,7 @@ const PROBLEM: [&str; 9] = [
     "end",
 ];
 
+/// The lines of its certificate.
 const CERTIFICATE: [&str; 5] = [
     "certificate 1",
     "value 250",
@@ -27,7 +28,7 @@ const CERTIFICATE: [&str; 5] = [
     "end",
 ];
 
-// A line in place of another, and what is refused then.
+/// A line in place of another, and what is refused then.
 const PROBLEMS: [(usize, &str, Option<TextError>); 31] = [
     (1, "problem 2", Some(TextError::BadLine { line: 1 })),
     (1, "problem  1", Some(TextError::BadLine { line: 1 })),
@@ -74,7 +75,7 @@ const PROBLEMS: [(usize, &str, Option<TextError>); 31] = [
     (9, "end ", Some(TextError::BadLine { line: 9 })),
 ];
 
-// A line in place of another, and what is refused then.
+/// A line in place of another, and what is refused then.
 const CERTIFICATES: [(usize, &str, Option<TextError>); 16] = [
     (1, "certificate 2", Some(TextError::BadLine { line: 1 })),
     (2, "value", Some(TextError::BadLine { line: 2 })),
@@ -154,7 +155,7 @@ fn a_text_that_is_cut_is_too_short_and_one_byte_more_trails(rt: HostRuntime) -> 
     Ok(())
 }
 
-// A word, and so many zeros behind it.
+/// A word, and so many zeros behind it.
 fn zeros(alloc: Global, word: &str, count: usize) -> Result<String, AllocError> {
     let mut line = String::from_str(alloc, word)?;
     for _ in 0..count {
@@ -163,7 +164,7 @@ fn zeros(alloc: Global, word: &str, count: usize) -> Result<String, AllocError> 
     Ok(line)
 }
 
-// The place of a line of a certificate, its word, and the most numbers that it may have.
+/// The place of a line of a certificate, its word, and the most numbers that it may have.
 const COUNTS: [(usize, &str, usize); 2] = [(3, "sell", 4_000), (4, "prices", 400)];
 
 #[test]
@@ -211,7 +212,7 @@ fn a_certificate_without_stays_is_written_without_numbers(rt: HostRuntime) -> Re
     Ok(())
 }
 
-// A value, an allocation and prices for the problem of three nights, and what is found of them.
+/// A value, an allocation and prices for the problem of three nights, and what is found of them.
 const VERDICTS: [(u128, &[u64], &[u64], Verdict); 10] = [
     (
         250,
@@ -266,6 +267,7 @@ const VERDICTS: [(u128, &[u64], &[u64], Verdict); 10] = [
     (0, &[], &[], Verdict::WrongLength),
 ];
 
+/// The verdict on a certificate of these numbers.
 fn verdict(
     alloc: Global,
     instance: &Instance,

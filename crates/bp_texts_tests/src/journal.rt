@@ -1,5 +1,4 @@
 //! Journals: each refusal at its line, the entry that each line tells, and what is written of a book.
-
 use crate::lines::{text_of, text_with};
 use bp_core::{Act, Book, Entry, Reply};
 use bp_edges::MemorySink;
@@ -9,7 +8,7 @@ use bp_types::{Command, Limits, Span};
 use std::alloc::Global;
 use std::test::Fail;
 
-// Three calls of one session on four stays over three nights, and the vectors that were published.
+/// Three calls of one session on four stays over three nights, and the vectors that were published.
 const JOURNAL: [&str; 19] = [
     "journal 2",
     "0 0 publish 0 vector 0",
@@ -32,7 +31,7 @@ const JOURNAL: [&str; 19] = [
     "end",
 ];
 
-// A line in place of another, and what is refused then.
+/// A line in place of another, and what is refused then.
 const REFUSALS: [(usize, &str, Option<TextError>); 24] = [
     (1, "journal 3", Some(TextError::BadLine { line: 1 })),
     (1, "journal 2 ", Some(TextError::BadLine { line: 1 })),
@@ -164,6 +163,7 @@ fn a_journal_that_is_cut_is_too_short_and_one_byte_more_trails(
     Ok(())
 }
 
+/// An entry.
 fn by(caller: u32, act: Act, reply: Reply) -> Entry {
     Entry { caller, act, reply }
 }
@@ -233,7 +233,7 @@ fn the_lines_of_a_journal_are_given_in_order(rt: HostRuntime) -> Result<(), Fail
     Ok(())
 }
 
-// The line of each kind of act with each of its replies, Publish apart, and the entry that it tells.
+/// The line of each kind of act with each of its replies, Publish apart, and the entry that it tells.
 const LINES: [(&str, Entry); 15] = [
     (
         "0 1 book 2 toolow 3 4 5",
@@ -391,6 +391,7 @@ fn each_kind_of_line_tells_its_entry(rt: HostRuntime) -> Result<(), Fail> {
     Ok(())
 }
 
+/// The limits of the house whose book is written.
 const LIMITS: Limits = Limits {
     stale_after: 2,
     entries: 3,

@@ -1,5 +1,4 @@
 //! Texts of the lines of a table.
-
 use std::alloc::{AllocError, Global};
 
 /// These lines, with another one in the place of one of them, which is counted from 1.

@@ -1,10 +1,9 @@
 //! Drafts of several pieces, and words and digits on a few lines.
-
 use bp_edges::{MemorySink, WriteError};
 use bp_text::{Draft, Number, Words, digits, number, push_line, push_wide_line};
 use std::test::Fail;
 
-// The last number that fits 128 bits.
+/// The last number that fits 128 bits.
 const WIDEST: u128 = u128::MAX;
 
 #[test]
@@ -57,7 +56,7 @@ fn the_words_of_a_line_are_given_one_by_one(rt: HostRuntime) {
     assert!(rt; words.number(9).is_none());
 }
 
-// Bytes, and what is read of them as digits and as a number up to 99.
+/// Bytes, and what is read of them as digits and as a number up to 99.
 const NUMBERS: [(&str, Number, Number); 6] = [
     ("12", Number::Value(12), Number::Value(12)),
     ("0", Number::Value(0), Number::Value(0)),

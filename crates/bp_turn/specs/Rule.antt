@@ -92,10 +92,9 @@ module _ {E : Type 0} (caller : E → ℕ) where
   IsEnded p j seen x = (p.role x.0 ≡ (j, keeps_ended)) × (entries_by caller x.0 p.history ≡ x.1) × (entries_by caller x.0 seen ≡ x.1)
 
 -- What the view v of the seat j has to do with the past. `lock` and `told_lock`: it has the lock's fixed part. `seen`
--- and `told`: it has seen a prefix of the history.
--- `own`, `free` and `ended`: no other seat has its numbers, and the history's entries under them are the ones kept with
--- them. `ticket` and `turn`: its ticket is no other's, and at its turn it is the one that is served, and the seat has
--- seen the whole history.
+-- and `told`: it has seen a prefix of the history. `own`, `free` and `ended`: no other seat has its numbers, and the
+-- history's entries under them are the ones kept with them. `ticket` and `turn`: its ticket is no other's, and at its
+-- turn it is the one that is served, and the seat has seen the whole history.
 pub record Fits {F E : Type 0} (caller : E → ℕ) (fixed : F) (p : Past E) (j : ℕ) (v : View F E) : Type 0 where
   pub lock : (f : F) → v.fixed ≡ Some f → f ≡ fixed
   pub told_lock : (f : F) → v.told_fixed ≡ Some f → f ≡ fixed
@@ -109,10 +108,10 @@ pub record Fits {F E : Type 0} (caller : E → ℕ) (fixed : F) (p : Past E) (j 
   pub turn : v.has_turn ≡ true → (v.has_ticket ≡ true) × (v.ticket ≡ p.served) × (v.seen ≡ p.history)
 
 -- The rule. `words`: the words are the length of the history, the next ticket and the one that is served. `count`: as
--- many tickets are out as numbers wait, so no two tickets that are out are one word.
--- `whole`: some seat has seen the whole history. `roles`: each number below CALLERS has a seat. `tickets`: each ticket
--- from the one that is served on is some seat's. `others`: no entry has a number from CALLERS on.
--- `each`: what each seat knows is so. `value`: where the value is.
+-- many tickets are out as numbers wait, so no two tickets that are out are one word. `whole`: some seat has seen the
+-- whole history. `roles`: each number below CALLERS has a seat. `tickets`: each ticket from the one that is served on
+-- is some seat's. `others`: no entry has a number from CALLERS on. `each`: what each seat knows is so. `value`: where
+-- the value is.
 pub record FollowsRule {B F E : Type 0} (fix : B → F) (story : B → List E) (caller : E → ℕ) (fixed : F) (s : State (Option B) (View F E)) : Type 0 where
   pub past : Past E
   pub words : s.words ≡ length past.history ∷ past.drawn % 2 ^ 64 ∷ past.served % 2 ^ 64 ∷ []

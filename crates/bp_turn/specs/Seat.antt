@@ -6,11 +6,10 @@ use Rattle.bp_types.specs.declared.limits.TheConstants.{CALLERS}
 use Rattle.bp_turn.specs.declared.table.View.{View}
 use Rattle.bp_turn.specs.Callers.{entries_by, numbers_to_hand_out}
 
--- What a seat is, has seen and has done.
--- `lock` is the lock that it is of, `fixed` the fixed part of that lock's value, `number` the number that it logs
--- under. It has seen the prefix `seen` of the history, in which `own` is what it logged.
--- It may hand out the numbers `free`; `ended` has the numbers of the seats joined into it, each with its entries.
--- `turns` and `looks` are the lengths that it found at each take and at each peek.
+-- What a seat is, has seen and has done. `lock` is the lock that it is of, `fixed` the fixed part of that lock's value,
+-- `number` the number that it logs under. It has seen the prefix `seen` of the history, in which `own` is what it
+-- logged. It may hand out the numbers `free`; `ended` has the numbers of the seats joined into it, each with its
+-- entries. `turns` and `looks` are the lengths that it found at each take and at each peek.
 pub record SeatState (F E : Type 0) : Type 0 where
   pub lock : TableId
   pub fixed : Option F

@@ -1,4 +1,4 @@
-// How threads that wait are put to sleep and woken.
+//! How threads that wait are put to sleep and woken.
 use std::sync::Wait;
 use std::sync::atomic::AtomicU64;
 use std::sync::atomic::Ordering::SeqCst;
@@ -7,12 +7,12 @@ use std::sync::atomic::Ordering::SeqCst;
 /// has to wait, and sleeps then: a ring after that look wakes it, and a ring before it keeps it from falling asleep.
 #[derive(Drop)]
 pub struct Bell {
-    // How often it was asked for and rung. Odd: it was asked for since it was rung last.
+    /// How often it was asked for and rung. Odd: it was asked for since it was rung last.
     count: AtomicU64,
 }
 
 impl Bell {
-    /// A bell for which nobody asks yet.
+    /// A bell for which nobody asks yet. It takes no memory.
     pub fn new() -> Bell {
         Bell {
             count: AtomicU64::new(0),
@@ -49,8 +49,8 @@ impl Bell {
         }
     }
 
-    // Whether this ring is the one that was asked for. The load comes first since it costs less, and mostly nobody
-    // asked.
+    /// Whether this ring is the one that was asked for. The load comes first since it costs less, and mostly nobody
+    /// asked.
     fn was_asked(&self) -> bool {
         let count = self.count.load(SeqCst);
         let rung = count.wrapping_add(1);

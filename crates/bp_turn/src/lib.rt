@@ -1,6 +1,9 @@
 //! A ticket lock whose value carries a history: who takes the lock knows that the history begins with all that it had
 //! seen before, and that its own entries stand in it each once and in order.
 //!
+//! Source of the ticket lock: Mellor-Crummey and Scott, *Algorithms for scalable synchronization on shared-memory
+//! multiprocessors*, 1991.
+//!
 //! A turn that adds an entry to a log: who takes it waits for those before it, and each turn is given back.
 //!
 //! ```

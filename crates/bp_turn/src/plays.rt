@@ -1,4 +1,4 @@
-// What each step on the table tells the seat that makes it. These types are for proofs alone: no value of them is made.
+//! What each step on the table tells the seat that makes it, as types for proofs alone: no value of them is made.
 ghost use Rattle.bp_turn.specs.Plays.{Drew, Called, Gave, Logged, Looked, Chose, Learnt};
 ghost use Rattle.bp_turn.specs.Views.{view_less_choice, newcomer, note, spent_view, view_told, view_joined};
 

@@ -1,4 +1,4 @@
-// A seat at the lock.
+//! A seat at the lock: the right to take turns under one number.
 ghost use Rattle.bp_turn.specs.Seat.{IsSound};
 
 use crate::story::Story;
@@ -9,6 +9,7 @@ use std::marker::Model;
 /// thread. Contracts see which lock it is of, and what it has seen and done there.
 #[derive(Drop)]
 pub struct TurnSeat<B: Story> {
+    /// Its place at the table.
     pub(crate) place: Place<B>,
 }
 

@@ -1,4 +1,4 @@
-// The calls that make a seat of another, end a seat in another, or let two tell each other what they have seen.
+//! The calls that make a seat of another, end a seat in another, or let two tell each other what they have seen.
 ghost use Rattle.std.specs.Prelude.{◌≡◌, ◌<◌, false, [], ◌∷◌, ◌++◌, Contains, IsOk, IsOkAnd, Some};
 ghost use Rattle.bp_types.specs.declared.limits.TheConstants.{CALLERS};
 ghost use Rattle.bp_turn.specs.Callers.{without};
@@ -15,8 +15,8 @@ use crate::turn::{Memory, Turn};
 use std::alloc::Global;
 
 impl<B: Story> Turn<B> {
-    /// A new seat with the number, which has seen as much. A seat has no bytes, so no memory is taken and the answer is
-    /// never `Memory`.
+    /// A new seat with the number, which has seen as much; the number is no longer free. A seat has no bytes, so no
+    /// memory is taken and the answer is never `Memory`.
     pub fn split(
         &self,
         _alloc: Global,
@@ -36,7 +36,8 @@ impl<B: Story> Turn<B> {
         Ok(TurnSeat { place })
     }
 
-    /// Ends the other seat in this one, which keeps its numbers and the entries under them.
+    /// Ends the other seat in this one, which keeps its numbers and the entries under them, and has seen what either
+    /// had. It neither waits nor takes memory.
     pub fn join(&self, seat: &mut TurnSeat<B>, other: TurnSeat<B>)
         requires lock { (seat.old.lock ≡ self.now) × (other.lock ≡ self.now) }
         requires idle { (seat.old.has_turn ≡ false) × (other.has_turn ≡ false) }
@@ -52,8 +53,8 @@ impl<B: Story> Turn<B> {
         self.absorb(&mut seat.place, place);
     }
 
-    /// Each of two seats learns what the other has seen. A seat has no bytes, so no memory is taken and the answer is
-    /// never `Memory`.
+    /// Each of two seats learns what the other has seen. It does not wait; a seat has no bytes, so no memory is taken
+    /// and the answer is never `Memory`.
     pub fn meet(
         &self,
         _alloc: Global,
@@ -75,7 +76,7 @@ impl<B: Story> Turn<B> {
         Ok(())
     }
 
-    // Tells the seat what the note's maker had seen.
+    /// Tells the seat what the note's maker had seen.
     fn hear(&self, place: &mut Place<B>, told: Place<B>)
         requires lock { (place.old.table_id ≡ self.now) × (told.table_id ≡ self.now) }
         requires idle { place.old.me.0.has_turn ≡ false }
@@ -93,7 +94,7 @@ impl<B: Story> Turn<B> {
         self.table.shared.load::<Learn>(place, LENGTH);
     }
 
-    // Ends the other seat in this one.
+    /// Ends the other seat in this one.
     fn absorb(&self, place: &mut Place<B>, other: Place<B>)
         requires lock { (place.old.table_id ≡ self.now) × (other.table_id ≡ self.now) }
         requires idle { (place.old.me.0.has_turn ≡ false) × (other.me.0.has_turn ≡ false) }

@@ -1,4 +1,4 @@
-// What a value under the lock has to be.
+//! What a value under the lock has to be.
 ghost use Rattle.std.specs.Prelude.{◌≡◌, ℕ, List, length};
 
 /// A value that a history lock may hold. It has a part that never changes, and a list of entries, its story, each made
@@ -10,13 +10,13 @@ pub trait Story {
     /// One event of the story.
     type Entry;
 
-    // The part that never changes.
+    /// The part that never changes.
     ghost fixed: { Self → Self.Fixed };
 
-    // The entries, the oldest first.
+    /// The entries, the oldest first.
     ghost story: { Self → List Self.Entry };
 
-    // The number of the caller that made the entry.
+    /// The number of the caller that made the entry.
     ghost caller: { Self.Entry → ℕ };
 
     /// How many entries the story has.

@@ -1,4 +1,4 @@
-// The table under the lock: three words, one slot with the value, and a view for each seat.
+//! The table under the lock: three words, one slot with the value, and a view for each seat.
 use crate::story::Story;
 use atomic_table::{Seat, Table, TableRule};
 use std::alloc::Global;
@@ -38,7 +38,7 @@ pub struct View<F, E> {
     pub looks: LinkedList<u64>,
 }
 
-/// The rule of the table.
+/// The rule of the table, which holds between any two steps of whatever threads.
 pub struct InTurn;
 
 impl<B: Story> TableRule<Option<B>, View<B::Fixed, B::Entry>, Snapshot<B>> for InTurn {
@@ -50,6 +50,7 @@ impl<B: Story> TableRule<Option<B>, View<B::Fixed, B::Entry>, Snapshot<B>> for I
     ghost first = { λ about. first_view (B.fixed about.value) (B.story about.value) };
 }
 
+/// The table under a lock over values of a type.
 pub type LockTable<B> = Table<
     Option<B>,
     View<<B as Story>::Fixed, <B as Story>::Entry>,
@@ -58,6 +59,7 @@ pub type LockTable<B> = Table<
     Global,
 >;
 
+/// A seat's place at that table: its view, and the slot with the value while it has the turn.
 pub type Place<B> = Seat<Option<B>, View<<B as Story>::Fixed, <B as Story>::Entry>>;
 
 /// The word with the length of the history.

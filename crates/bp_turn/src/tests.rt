@@ -1,3 +1,4 @@
+//! Tests: two threads that log, looks that rise, a turn without an entry; and that a lock is shared and its seats move.
 ghost use Rattle.std.specs.Prelude.{◌≡◌, ◌<◌, ◌≤◌, ◌++◌, ◌∷◌, [], true, false, IfOk};
 ghost use Rattle.bp_types.specs.declared.limits.TheConstants.{CALLERS};
 ghost use Rattle.bp_turn.specs.Prefix.{IsPrefix};
@@ -8,7 +9,7 @@ use std::sync::Wait;
 use std::test::Fail;
 use std::thread::{Threads, join};
 
-// Pairs of a caller and a number.
+/// Pairs of a caller and a number.
 #[derive(Drop)]
 struct Log {
     pairs: Vec<(u32, u32)>,
@@ -30,7 +31,7 @@ impl Story for Log {
     }
 }
 
-// A lock over a log with these entries of caller 0, its first seat, and a seat with the other number.
+/// A lock over a log with these entries of caller 0, its first seat, and a seat with the other number.
 fn opened(
     alloc: Global,
     numbers: &[u32],
@@ -51,7 +52,7 @@ fn opened(
     Ok((turn, first, second))
 }
 
-// Adds an entry. Without memory it adds none.
+/// Adds an entry. Without memory it adds none.
 fn add<R: Wait>(
     rt: &R,
     turn: &Turn<Log>,
@@ -73,7 +74,7 @@ fn add<R: Wait>(
     true
 }
 
-// Adds the numbers from 0 to 99.
+/// Adds the numbers from 0 to 99.
 fn add_hundred<R: Wait>(
     rt: &R,
     turn: &Turn<Log>,
@@ -89,7 +90,7 @@ fn add_hundred<R: Wait>(
     seat
 }
 
-// A turn that adds nothing.
+/// A turn that adds nothing.
 fn pass_by<B: Story, R: Wait>(rt: &R, turn: &Turn<B>, mut seat: TurnSeat<B>) -> TurnSeat<B>
     requires { (seat.lock ≡ turn.now) × (seat.has_turn ≡ false) }
     ensures { (result.lock ≡ turn.now) × (result.has_turn ≡ false) × (result.number ≡ seat.number) ×
@@ -100,7 +101,7 @@ fn pass_by<B: Story, R: Wait>(rt: &R, turn: &Turn<B>, mut seat: TurnSeat<B>) -> 
     seat
 }
 
-// A lock over any value that may move is shared by threads, and its seats move to them.
+/// A lock over any value that may move is shared by threads, and its seats move to them.
 fn pass_by_both<B: Story + Send, R: Threads + Wait + Sync>(
     rt: &R,
     turn: &Turn<B>,

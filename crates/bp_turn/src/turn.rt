@@ -1,4 +1,4 @@
-// The lock, and the calls that take a turn or look at the length.
+//! The lock, and the calls that take a turn or look at the length.
 ghost use Rattle.std.specs.Prelude.{◌≡◌, ◌%◌, ◌^◌, ◌<◌, ◌≤◌, true, false, [], ◌∷◌, ◌++◌, length, IfOk, Some, All, None};
 ghost use Rattle.bp_types.specs.declared.limits.TheConstants.{CALLERS};
 ghost use Rattle.bp_turn.specs.Plays.{Took};
@@ -17,22 +17,25 @@ use std::marker::Model;
 use std::snapshot::Snapshot;
 use std::sync::Wait;
 
-// How often a thread sleeps before it draws its ticket.
+/// How often a thread sleeps before it draws its ticket.
 const PATIENCE: u32 = 16;
 
-// How often a thread with a ticket looks for its turn before it sleeps: about as long as a turn takes.
+/// How often a thread with a ticket looks for its turn before it sleeps: about as long as a turn takes.
 const LOOKS: u32 = 200;
 
 /// There was no memory.
 #[derive(Clone, Copy, PartialEq, Eq, Debug)]
 pub struct Memory;
 
-/// A ticket lock over a value whose story only grows. Contracts see which lock it is, and seats name it by that.
+/// A ticket lock over a value whose story only grows: who takes a turn draws a ticket, and tickets are served in the
+/// order in which they were drawn. Contracts see which lock it is, and seats name it by that.
 #[derive(Drop)]
 pub struct Turn<B: Story> {
+    /// The table with the value, the length of its history, and the two counters of tickets.
     pub(crate) table: LockTable<B>,
-    // Where threads sleep that have no ticket yet, and those that have one.
+    /// Where threads sleep that have no ticket yet.
     door: Bell,
+    /// Where those sleep that have one.
     line: Bell,
 }
 
@@ -51,7 +54,8 @@ impl<B: Story> Model for Turn<B> {
 
 impl<B: Story + Drop> Turn<B> {
     /// A lock over the value, and its first seat, which has the number 0 and may hand out the others below `CALLERS`.
-    /// Without memory the value is dropped.
+    /// The entries that the value has already are of caller 0. The one error is `Memory`, and then the value is
+    /// dropped.
     pub fn new(alloc: Global, value: B) -> Result<(Turn<B>, TurnSeat<B>), Memory>
         requires { All (λ (e : B.Entry). B.caller e ≡ 0) (B.story value) }
         ensures { IfOk result (λ r. r.1 ≡ first_seat r.0 (B.fixed value) (B.story value)) }
@@ -77,7 +81,8 @@ impl<B: Story + Drop> Turn<B> {
 }
 
 impl<B: Story> Turn<B> {
-    /// Waits for the seat's turn, and takes the value. A thread that waits sleeps, and is woken when a turn ends.
+    /// Waits for the seat's turn, and takes the value. A thread that waits sleeps, and is woken when a turn ends. It
+    /// may wait for ever, as where a seat that has the turn is dropped.
     pub fn take<R: Wait>(&self, rt: &R, seat: &mut TurnSeat<B>) -> B
         requires lock { seat.old.lock ≡ self.now }
         requires idle { seat.old.has_turn ≡ false }
@@ -102,7 +107,7 @@ impl<B: Story> Turn<B> {
         }
     }
 
-    /// Gives the value back with the story that was taken, and ends the turn.
+    /// Gives the value back with the story that was taken, and ends the turn. It does not wait.
     pub fn give(&self, seat: &mut TurnSeat<B>, value: B)
         requires lock { seat.old.lock ≡ self.now }
         requires turn { seat.old.has_turn ≡ true }
@@ -115,7 +120,7 @@ impl<B: Story> Turn<B> {
     }
 
     /// Gives the value back with one entry more, which the seat made, and ends the turn. The one atomic step that
-    /// raises the length makes the entry part of the history.
+    /// raises the length makes the entry part of the history: it is the linearization point. It does not wait.
     pub fn give_logged(&self, seat: &mut TurnSeat<B>, value: B)
         requires lock { seat.old.lock ≡ self.now }
         requires turn { seat.old.has_turn ≡ true }
@@ -149,7 +154,7 @@ impl<B: Story> Turn<B> {
         self.table.shared.load::<Look>(&mut seat.place, LENGTH)
     }
 
-    // Puts the value into the slot, which the seat holds.
+    /// Puts the value into the slot, which the seat holds.
     fn put_back(&self, place: &mut Place<B>, value: B)
         requires lock { place.old.table_id ≡ self.now }
         requires empty { place.old.me.1 ≡ (0, None) ∷ [] }
@@ -160,7 +165,7 @@ impl<B: Story> Turn<B> {
         let None = empty else { unreachable!() };
     }
 
-    // Gives the slot back, serves the next ticket, and wakes those that it may concern.
+    /// Gives the slot back, serves the next ticket, and wakes those that it may concern.
     fn serve_next(&self, place: &mut Place<B>)
         requires lock { place.old.table_id ≡ self.now }
         requires turn { (place.old.me.0.number < CALLERS) × (place.old.me.0.has_turn ≡ true) }
@@ -176,9 +181,9 @@ impl<B: Story> Turn<B> {
         self.door.ring_for_one();
     }
 
-    // Sleeps before it draws a ticket, until no ticket is out: else each turn would wait for the one thread that is
-    // next to wake up. After some sleeps it goes on all the same, so that threads that came later do not pass it for
-    // ever.
+    /// Sleeps before it draws a ticket, until no ticket is out: else each turn would wait for the one thread that is
+    /// next to wake up. After some sleeps it goes on all the same, so that threads that came later do not pass it for
+    /// ever.
     fn approach<R: Wait>(&self, rt: &R) {
         for _ in 0..PATIENCE {
             if self.is_free() {
@@ -193,14 +198,14 @@ impl<B: Story> Turn<B> {
         }
     }
 
-    // Whether no ticket is out, as far as two looks can tell.
+    /// Whether no ticket is out, as far as two looks can tell.
     fn is_free(&self) -> bool {
         let serving = self.table.shared.peek(SERVING);
         serving == self.table.shared.peek(TICKET)
     }
 
-    // Looks a while whether the ticket is served. Only two that drew their tickets at one moment meet here, and none that
-    // comes later can pass the second: to sleep and be woken would cost all of them more than a turn.
+    /// Looks a while whether the ticket is served. Only two that drew their tickets at one moment meet here, and none
+    /// that comes later can pass the second: to sleep and be woken would cost all of them more than a turn.
     fn look_out(&self, ticket: u64) {
         for _ in 0..LOOKS {
             if self.table.shared.peek(SERVING) == ticket {
@@ -209,7 +214,7 @@ impl<B: Story> Turn<B> {
         }
     }
 
-    // Sleeps until the ticket is served, and has the slot with the value then.
+    /// Sleeps until the ticket is served, and has the slot with the value then.
     fn wait<R: Wait>(&self, rt: &R, place: &mut Place<B>, ticket: u64)
         requires lock { place.old.table_id ≡ self.now }
         requires ticket { (place.old.me.0.number < CALLERS)

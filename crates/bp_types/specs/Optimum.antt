@@ -1,4 +1,8 @@
 -- Feasible allocations, certificates, the optimum and the least prices.
+--
+-- Certificates are of whole numbers. A stay takes nights in a row, so the matrix of the program has consecutive ones in
+-- each column; such an interval matrix is totally unimodular, and a program of whole numbers then has a whole optimal
+-- allocation and whole optimal prices. No definition here assumes it.
 use Rattle.std.specs.Prelude.{◌≡◌, ℕ, ◌+◌, ◌*◌, ◌-◌, ◌≤◌, ◌<◌, List, length, slice_index, All, EachIndex}
 use Rattle.bp_types.specs.declared.limits.TheConstants.{MOST_PRICE}
 use Rattle.bp_types.specs.Program.{Program, stay_at, load, worth, bound}

@@ -1,3 +1,4 @@
+//! A certificate: a value, an allocation and bid prices that are said to certify each other.
 ghost use Rattle.std.specs.Prelude.{◌≡◌, IfOk};
 
 use crate::Memory;
@@ -6,7 +7,10 @@ use std::marker::Model;
 
 /// An allocation and bid prices, with the value that both are said to have.
 ///
-/// Contracts see a number and two lists.
+/// Contracts see a number and two lists. All are whole numbers, and these suffice: a stay takes nights in a row, so the
+/// matrix of the program, a row a night and a column a stay, has consecutive ones in each column. Such an interval
+/// matrix is totally unimodular, so whole rooms and forecasts have a whole optimal allocation, and whole rates whole
+/// optimal prices.
 #[derive(Debug, Drop)]
 pub struct Certificate {
     /// In minor units of money, times the unit of the instance.
@@ -26,7 +30,7 @@ impl Model for Certificate {
 }
 
 impl Certificate {
-    /// A copy, the same in every value.
+    /// A copy, the same in every value. It takes the time of the two lists; the one error is `Memory`.
     pub fn copy(&self, alloc: Global) -> Result<Certificate, Memory>
         ensures { IfOk result (λ c. c ≡ self.now) }
     {

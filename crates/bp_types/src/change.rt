@@ -1,9 +1,10 @@
+//! A change of an instance: of the rooms of a span, or of the forecast or the rate of a stay.
 ghost use Rattle.std.specs.Prelude.{◌≡◌, ℕ, ◌+◌, ◌≤◌, ◌<◌, ◌^◌, MatchBool, length, slice_index};
 ghost use Rattle.bp_types.specs.Rooms.{moved, rooms_moved};
 
 use crate::Span;
 
-/// One change of an instance.
+/// One change of an instance. Stays are named by their numbers, from 0.
 #[derive(Clone, Copy, Debug, PartialEq, Eq)]
 pub enum Change {
     /// So many units more (`up`), or fewer, on each night of the span.
@@ -14,7 +15,8 @@ pub enum Change {
     Rate { stay: u32, value: u64 },
 }
 
-/// So many units more (`up`), or fewer, on each night of the span.
+/// So many units more (`up`), or fewer, on each night of the span: `rooms` has one number per night. It takes the time
+/// of the span's nights.
 pub(crate) fn move_rooms(rooms: &mut [u64], span: Span, up: bool, units: u64)
     requires ordered { span.from ≤ span.to }
     requires within { span.to ≤ length rooms.old }
@@ -28,6 +30,7 @@ pub(crate) fn move_rooms(rooms: &mut [u64], span: Span, up: bool, units: u64)
     }
 }
 
+/// The rooms of one night with so many units more (`up`), or fewer.
 fn moved(rooms: u64, up: bool, units: u64) -> u64
     requires { MatchBool up (rooms + units < 2 ^ 64) (units ≤ rooms) }
     ensures { result ≡ moved rooms up units }

@@ -1,3 +1,4 @@
+//! What a caller asks of a desk, what a quote says of a group, and what bounds a desk's history.
 use crate::Span;
 
 /// What a caller asks of the desk.

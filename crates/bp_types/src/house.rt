@@ -1,3 +1,4 @@
+//! The house: a hotel as its desk opens, which keeps to every limit, and the first limit that one breaks.
 ghost use Rattle.std.specs.Prelude.{◌≡◌, ◌<◌, ◌-◌, ◌≤◌, length, map, nat_lt, slice_index, MatchResult, IfOk, IsTrue};
 ghost use Rattle.std.specs.List.{find, range_with_len};
 ghost use Rattle.bp_types.specs.declared.limits.TheConstants.{MOST_NIGHTS};
@@ -25,19 +26,25 @@ use thiserror::Error;
 /// The first limit that a house breaks, in the order of these variants, each at its first place.
 #[derive(Clone, Copy, Debug, PartialEq, Eq, Error)]
 pub enum HouseError {
+    /// A limit of the instance, whose nights have 10,000 whole rooms at most.
     #[error("{0}")]
     Instance(InstanceError),
+    /// Not one number of sold rooms per night.
     #[error("there is not one sold number per night")]
     SoldLength,
     /// More rooms sold on this night than there are.
     #[error("night {night} has more rooms sold than it has")]
     Sold { night: u32 },
+    /// The number of changes after which a booking waits is 0, or above 100,000.
     #[error("the number of changes to wait for is outside 1 to 100000")]
     StaleAfter,
+    /// The greatest number of command entries is 0, or above 200,000.
     #[error("the number of entries is outside 1 to 200000")]
     Entries,
+    /// The greatest number of vectors is 0, or above 1,000.
     #[error("the number of publications is outside 1 to 1000")]
     Publications,
+    /// The unit is neither 1 nor 100.
     #[error("the unit is neither 1 nor 100")]
     Unit,
 }
@@ -70,7 +77,9 @@ impl Model for House {
 }
 
 impl House {
-    /// The house of these rooms, sold rooms, stays and limits, or the first limit that they break.
+    /// The house of these rooms, sold rooms, stays and limits, or the first limit that they break. `rooms` and `sold`
+    /// have one number per night, in whole rooms; the forecasts of the stays are in units. It takes no memory, and the
+    /// time of a look at each night and each stay.
     pub fn new(
         rooms: Vec<u64>,
         sold: Vec<u64>,
@@ -93,7 +102,8 @@ impl House {
         }
     }
 
-    /// The program of the house in its units: what is left of the rooms, and the stays.
+    /// The program of the house in its units: what is left of the rooms, and the stays. It takes the time of the nights
+    /// and the stays; the one error is `Memory`.
     pub fn instance(&self, alloc: Global) -> Result<Instance, Memory>
         ensures { IfOk result (λ p. p ≡ opening self.now) }
     {
@@ -102,6 +112,7 @@ impl House {
         Ok(Instance::within(rooms, stays))
     }
 
+    /// The units left on each night, one number per night.
     fn rooms_left(&self, alloc: Global) -> Result<Vec<u64>, Memory>
         ensures { IfOk result (λ v. v.items ≡ map (units_left self.now) (range_with_len 0 (length self.now.rooms))) }
     {
@@ -112,6 +123,7 @@ impl House {
         Ok(left)
     }
 
+    /// The units left on a night.
     fn units_left(&self, night: u32) -> u64
         requires { night < length self.now.rooms }
         ensures { result ≡ units_left self.now night }
@@ -159,7 +171,7 @@ impl House {
         self.sold[night as usize]
     }
 
-    /// A stay by its number.
+    /// A stay by its number, from 0.
     pub fn stay(&self, stay: u32) -> Stay
         requires { stay < length self.now.stays }
         ensures { result ≡ slice_index_or self.now.stays stay no_stay }
@@ -168,12 +180,14 @@ impl House {
     }
 }
 
+/// Whether a number is from 1 up to the greatest.
 fn is_from_one(most: u64, number: u64) -> bool
     ensures { result ≡ is_from_one most number }
 {
     1 <= number && number <= most
 }
 
+/// The first night with more rooms sold than it has.
 fn oversold_night(rooms: &[u64], sold: &[u64]) -> Option<u32>
     requires one_each { length sold.now ≡ length rooms.now }
     requires short { length rooms.now ≤ MOST_NIGHTS }
@@ -187,6 +201,7 @@ fn oversold_night(rooms: &[u64], sold: &[u64]) -> Option<u32>
     None
 }
 
+/// What is wrong with the rooms sold.
 fn sold_refusal_of(rooms: &[u64], sold: &[u64]) -> Option<HouseError>
     requires { length rooms.now ≤ MOST_NIGHTS }
     ensures { result ≡ sold_refusal rooms.now sold.now }
@@ -200,6 +215,7 @@ fn sold_refusal_of(rooms: &[u64], sold: &[u64]) -> Option<HouseError>
     None
 }
 
+/// The first limit that the limits of a desk break themselves.
 fn limits_refusal_of(limits: Limits) -> Option<HouseError>
     ensures { result ≡ limits_refusal limits }
 {
@@ -218,6 +234,7 @@ fn limits_refusal_of(limits: Limits) -> Option<HouseError>
     None
 }
 
+/// The first limit that a house breaks: its instance's, then those of the rooms sold, then the desk's.
 fn house_refusal_of(
     rooms: &[u64],
     sold: &[u64],

@@ -1,3 +1,4 @@
+//! The instance: rooms by night and stays within their limits, the worth of an allocation, and the bound of prices.
 ghost use Rattle.std.specs.Prelude.{◌≡◌, ℕ, ◌^◌, ◌<◌, ◌≤◌, ◌*◌, ◌-◌, length, slice_index, MatchResult, IfOk};
 ghost use Rattle.bp_types.specs.Program.{Program, stay_at, load, worth, bound, rooms_value, stays_value};
 ghost use Rattle.bp_types.specs.Limits.{refusal, IsWithinLimits};
@@ -33,7 +34,8 @@ impl Model for Instance {
 }
 
 impl Instance {
-    /// The instance of these rooms and stays, or the first limit that they break.
+    /// The instance of these rooms and stays, or the first limit that they break: `rooms` has one number per night, in
+    /// units. It takes no memory, and the time of a look at each night and each stay.
     pub fn new(rooms: Vec<u64>, stays: Vec<Stay>) -> Result<Instance, InstanceError>
         ensures made { MatchResult result
             (λ p. (p.rooms ≡ rooms.items) × (p.stays ≡ stays.items) × (refusal rooms.items stays.items ≡ None))
@@ -45,7 +47,7 @@ impl Instance {
         }
     }
 
-    /// The instance of rooms and stays that are known to keep to the limits.
+    /// The instance of rooms and stays that are known to keep to the limits. Nothing is tested.
     pub fn within(rooms: Vec<u64>, stays: Vec<Stay>) -> Instance
         requires { IsWithinLimits (record { rooms = rooms.items; stays = stays.items }) }
         ensures { result ≡ record { rooms = rooms.items; stays = stays.items } }
@@ -77,7 +79,7 @@ impl Instance {
         self.rooms[night as usize]
     }
 
-    /// A stay by its number.
+    /// A stay by its number, from 0.
     pub fn stay(&self, stay: u32) -> Stay
         requires { stay < length self.now.stays }
         ensures { result ≡ stay_at self.now stay }
@@ -85,7 +87,7 @@ impl Instance {
         self.stays[stay as usize]
     }
 
-    /// A copy, the same in every value.
+    /// A copy, the same in every value. It takes the time of the nights and the stays; the one error is `Memory`.
     pub fn copy(&self, alloc: Global) -> Result<Instance, Memory>
         ensures { IfOk result (λ p. p ≡ self.now) }
     {
@@ -94,7 +96,8 @@ impl Instance {
         Ok(Instance { rooms, stays })
     }
 
-    /// Makes one change, which keeps to the limits.
+    /// Makes one change, which keeps to the limits. One of rooms takes the time of the span's nights; the others write
+    /// one number.
     pub fn apply(&mut self, change: Change)
         requires { Fits self.old change }
         ensures changed { self.new ≡ changed self.old change }
@@ -108,7 +111,7 @@ impl Instance {
         let _nights = self.nights();
     }
 
-    /// What an allocation takes of a night, in units: `sell` has one number per stay.
+    /// What an allocation takes of a night, in units: `sell` has one number per stay. It takes the time of the stays.
     pub fn load(&self, sell: &[u64], night: u32) -> u128
         requires { length sell.now ≡ length self.now.stays }
         ensures { result ≡ load self.now sell.now night }
@@ -122,7 +125,8 @@ impl Instance {
         sum
     }
 
-    /// The revenue of an allocation, in minor units of money times the unit: `sell` has one number per stay.
+    /// The revenue of an allocation, in minor units of money times the unit: `sell` has one number per stay. It takes
+    /// the time of the stays.
     pub fn worth(&self, sell: &[u64]) -> u128
         requires { length sell.now ≡ length self.now.stays }
         ensures { result ≡ worth self.now sell.now }
@@ -134,8 +138,8 @@ impl Instance {
         sum
     }
 
-    /// The dual value of bid prices, in minor units of money times the unit: `prices` has one number per
-    /// night. No allocation, whole or fractional, is worth more.
+    /// The dual value of bid prices, in minor units of money times the unit: `prices` has one number per night. By weak
+    /// duality no feasible allocation, whole or fractional, is worth more. Its time grows with nights plus stays.
     pub fn bound_of(&self, prices: &[u64]) -> u128
         requires { length prices.now ≡ length self.now.rooms }
         ensures { result ≡ bound self.now prices.now }
@@ -143,6 +147,7 @@ impl Instance {
         self.rooms_value(prices) + self.stays_value(prices)
     }
 
+    /// The rooms of all nights at their prices.
     fn rooms_value(&self, prices: &[u64]) -> u128
         requires { length prices.now ≡ length self.now.rooms }
         ensures value { result ≡ rooms_value self.now prices.now }
@@ -155,6 +160,7 @@ impl Instance {
         sum
     }
 
+    /// The forecasts of all stays at their surpluses.
     fn stays_value(&self, prices: &[u64]) -> u128
         requires { length prices.now ≡ length self.now.rooms }
         ensures value { result ≡ stays_value self.now prices.now }

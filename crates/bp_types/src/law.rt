@@ -1,5 +1,4 @@
 //! Laws over the definitions, as the contracts of functions that do nothing.
-
 ghost use Rattle.bp_types.specs.Laws.{
   WeakDuality,
   CertificateIsOptimal,
@@ -13,12 +12,14 @@ ghost use Rattle.bp_types.specs.Laws.{
   FitsAppend,
 };
 
-/// No allocation, whole or fractional, is worth more than the bound of any prices.
+/// Weak duality of the linear program: no feasible allocation, whole or fractional, is worth more than the bound of any
+/// prices.
 pub fn weak_duality()
     ensures { WeakDuality }
 {}
 
-/// The value that a certificate states is the optimum.
+/// The value that a certificate states is the optimum: its allocation reaches it, and by weak duality none is worth
+/// more.
 pub fn certificate_is_optimal()
     ensures { CertificateIsOptimal }
 {}

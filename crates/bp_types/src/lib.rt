@@ -4,8 +4,7 @@
 //! room is one unit, or a hundred where a house counts in hundredths. Source of the program, its dual
 //! and its use for bid prices: Talluri and van Ryzin, The Theory and Practice of Revenue Management, 2004.
 //!
-//! Three nights with 2, 1 and 2 rooms: an allocation is worth the rates of what it sells, and loads its
-//! nights.
+//! Three nights with 2, 1 and 2 rooms: an allocation is worth the rates of what it sells, and loads its nights.
 //!
 //! ```
 //! let sell = [1, 1, 0, 3];

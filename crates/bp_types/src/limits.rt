@@ -45,6 +45,10 @@ pub const MOST_GROUP_ROOMS: u64 = MOST_ROOMS;
 /// The amount that a group pays, at most, in minor units of money.
 pub const MOST_AMOUNT: u64 = 1_000_000_000_000_000;
 
+/// The value of a certificate or a displacement, at most, as a text has it: in minor units of money times the unit of
+/// the house.
+pub const MOST_VALUE: u128 = 1_000_000_000_000_000_000_000_000_000_000;
+
 /// Sessions of a run, at most.
 pub const MOST_SESSIONS: u32 = 32;
 

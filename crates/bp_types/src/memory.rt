@@ -1,3 +1,4 @@
+//! Want of memory, as the calls of all crates answer it.
 ghost use Rattle.bp_types.specs.declared.memory.Memory.{Memory};
 
 use std::alloc::{AllocError, AllocFailed};

@@ -1,3 +1,4 @@
+//! The prices of spans, as differences of sums of prices to the last night.
 ghost use Rattle.std.specs.Prelude.{◌≡◌, ◌-◌, ◌≤◌, length, slice_index};
 ghost use Rattle.bp_types.specs.declared.limits.TheConstants.{MOST_NIGHTS};
 ghost use Rattle.bp_types.specs.Prices.{SumUp};
@@ -5,14 +6,15 @@ ghost use Rattle.bp_types.specs.Prices.{SumUp};
 use crate::Span;
 use crate::limits::MOST_NODES;
 
-/// The sums of prices from each night to the last one, from which the price of a span is one difference.
+/// The sums of prices from each night to the last one, from which the price of a span is one difference. In minor units
+/// of money.
 #[derive(Clone, Copy)]
 pub(crate) struct PriceSums {
     sums: [u128; MOST_NODES],
 }
 
 impl PriceSums {
-    /// The sums of one price per night.
+    /// The sums of prices, of which there is one per night. It takes the time of the nights.
     pub(crate) fn of(prices: &[u64]) -> PriceSums
         requires { length prices.now ≤ MOST_NIGHTS }
         ensures { SumUp prices.now result.sums }

@@ -1,3 +1,4 @@
+//! A counter that is in proofs alone, by which contracts bound how many searches are made.
 ghost use Rattle.std.specs.Prelude.{◌≡◌, ◌+◌, ◌<◌};
 
 use std::marker::Model;

@@ -1,3 +1,4 @@
+//! Tests: every limit at and one past it, the sums of the program beside their definitions, changes and copies.
 ghost use Rattle.std.specs.Prelude.{◌≡◌, length, IfOk};
 
 use super::*;
@@ -5,7 +6,7 @@ use std::alloc::Global;
 use std::process::Abort;
 use std::test::Fail;
 
-// From and to, rate and forecast.
+/// From and to, rate and forecast.
 type Row = (u32, u32, u64, u64);
 
 fn stay(row: Row) -> Stay {
@@ -50,7 +51,7 @@ fn three_nights(rt: &impl Abort, alloc: Global) -> Result<Instance, Fail>
     Ok(instance)
 }
 
-// What is refused of these rooms and stays.
+/// What is refused of these rooms and stays.
 fn refused(alloc: Global, rooms: &[u64], rows: &[Row]) -> Result<Option<InstanceError>, Memory> {
     Ok(instance(alloc, rooms, rows)?.err())
 }
@@ -141,7 +142,7 @@ fn there_are_400_nights_and_4000_stays_at_most(rt: HostRuntime) -> Result<(), Fa
     Ok(())
 }
 
-// Changes to wait for, entries, publications and unit.
+/// Changes to wait for, entries, publications and unit.
 type Bounds = (u64, u64, u64, u64);
 
 const LEAST: Bounds = (1, 1, 1, 1);
@@ -168,7 +169,7 @@ fn house(
     Ok(House::new(rooms, Vec::from_slice(alloc, sold)?, stays, limits))
 }
 
-// Rooms and rooms sold of houses whose bounds are broken too.
+/// Rooms and rooms sold of houses whose bounds are broken too.
 const ROOMS_SOLD: [(&[u64], &[u64], HouseError); 7] = [
     (&[], &[1], HouseError::Instance(InstanceError::NoNights)),
     (
@@ -233,7 +234,7 @@ fn a_house_opens_in_hundredths_with_the_rooms_left(rt: HostRuntime) -> Result<()
     Ok(())
 }
 
-// The price of a stay as it is defined: every night is asked.
+/// The price of a stay as it is defined: every night is asked.
 fn price_night_by_night(prices: &[u64; 3], span: Span) -> u128 {
     let mut sum: u128 = 0;
     for (night, price) in (0..3).zip(prices.iter()) {
@@ -244,7 +245,7 @@ fn price_night_by_night(prices: &[u64; 3], span: Span) -> u128 {
     sum
 }
 
-// The dual value as it is defined.
+/// The dual value as it is defined.
 fn bound_as_defined(prices: &[u64; 3]) -> u128 {
     let mut sum: u128 = 0;
     for (rooms, price) in ROOMS.iter().zip(prices.iter()) {

@@ -11,8 +11,8 @@ use std::sync::ledger::Ledger;
 
 /// Makes the changes in turn, and then the prices the least optimal ones. It takes no memory.
 ///
-/// It makes as many searches as the changes move units, and one more, at most. A change of rooms moves its
-/// units, one of a forecast the difference of the two, and one of a rate twice the forecast of its stay.
+/// It makes as many searches as the changes move units, and one more, at most. A change of rooms moves its units, one
+/// of a forecast the difference of the two, and one of a rate twice the forecast of its stay.
 pub fn catch_up<L: Ledger>(solver: &mut Solver, changes: &[Change], steps: &mut Steps<L>)
     requires { FitInTurn solver.old.flow.program changes.now }
     ensures program { solver.new.flow.program ≡ changed_by_all solver.old.flow.program changes.now }

@@ -1,7 +1,6 @@
 //! The bands of every small instance, against a plain search over all allocations.
 //!
 //! An instance is small that has three nights and stays at most, rates up to 3 and forecasts up to 2.
-
 ghost use Rattle.std.specs.Prelude.{◌≡◌, ◌≤◌, All, IfOk};
 ghost use Rattle.bp_types.specs.declared.limits.TheConstants.{MOST_ROOMS};
 
@@ -152,6 +151,7 @@ fn one_or_two(number: usize) -> u64
     (1 + number % 2) as u64
 }
 
+/// The rates of the stays.
 const RATES: [u64; 2] = [1, 3];
 
 /// One of the eighteen stays of two nights, whose forecast may be 0.

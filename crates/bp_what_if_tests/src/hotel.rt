@@ -1,5 +1,4 @@
 //! The hotel of three nights that the tests share.
-
 ghost use Rattle.std.specs.Prelude.{◌≡◌, IfOk};
 
 use bp_fixtures::{STAYS, instance};

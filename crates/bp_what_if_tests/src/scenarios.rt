@@ -1,5 +1,4 @@
 //! Scenarios of three nights: what is answered, and each refusal at its line.
-
 use crate::hotel::three_nights;
 use bp_edges::MemorySink;
 use bp_scenarios::{TextError, read_scenarios, scenarios, scenarios_alone, write_outcomes};
@@ -22,6 +21,7 @@ fn answered(
     Ok(out)
 }
 
+/// Nothing changed, one room fewer, two rooms fewer than one, and a new rate.
 const FOUR: &[u8] = b"scenarios 1
 scenario
 scenario
@@ -33,6 +33,7 @@ rate 0 200
 end
 ";
 
+/// What is answered to them.
 const FOUR_ANSWERS: &[u8] = b"scenario 1 value 250 prices 0 100 40
 scenario 2 value 140 prices 0 110 40
 scenario 3 refused 1

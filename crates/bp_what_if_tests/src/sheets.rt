@@ -1,11 +1,11 @@
 //! The sheet of three nights, and the bands of nights without rooms and with all.
-
 use crate::hotel::three_nights;
 use bp_edges::MemorySink;
 use bp_sheets::{bands, sheet};
 use bp_types::{Instance, Span, Stay};
 use std::test::Fail;
 
+/// The sheet of three nights, worked out by hand.
 const SHEET: &[u8] = b"night 0 price 0 gain 0 loss 0
 night 1 price 100 gain 100 loss 110
 night 2 price 40 gain 40 loss 40
@@ -14,6 +14,7 @@ arrival 1 least 2 hurdles 100 140
 arrival 2 least 1 hurdles 40
 ";
 
+/// A stay of the first night alone.
 const CLOSED: Stay = Stay {
     span: Span { from: 0, to: 1 },
     rate: 100,

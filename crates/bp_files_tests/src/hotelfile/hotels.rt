@@ -1,5 +1,4 @@
 //! Hotels that are read: their nights, dates, rooms and limits.
-
 use bp_hotelfile::{DateError, Hotel, read_hotel};
 use bp_types::Limits;
 use std::process::Abort;
@@ -25,6 +24,7 @@ fn a_hotel_of_three_nights(rt: HostRuntime) -> Result<(), Fail> {
     Ok(())
 }
 
+/// Wants these limits.
 fn has_limits(rt: &impl Abort, hotel: &Hotel, limits: [u64; 4]) {
     let [stale_after, entries, publications, unit] = limits;
     let expected = Limits {
@@ -36,6 +36,7 @@ fn has_limits(rt: &impl Abort, hotel: &Hotel, limits: [u64; 4]) {
     assert_eq!(rt; hotel.limits(), expected);
 }
 
+/// Wants the nights of dates within the hotel, beside it, and of no dates.
 fn names_its_nights(rt: &impl Abort, hotel: &Hotel) {
     let cases = [
         ("2025-02-27", Ok(0)),

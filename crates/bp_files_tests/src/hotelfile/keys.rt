@@ -1,10 +1,10 @@
 //! Keys that are absent, of another kind, or out of range.
-
 use super::{refusal, refused};
 use crate::three_nights::TWO_ROOMS;
 use bp_hotelfile::{HotelRefusal, Key, read_hotel};
 use std::test::Fail;
 
+/// The first two keys.
 const NAME_AND_NIGHT: &str = "name = \"A\"\nfirst_night = \"2025-07-01\"\n";
 
 #[test]

@@ -1,5 +1,4 @@
 //! The tables of single nights.
-
 use super::refusal;
 use crate::three_nights::{TWO_ROOMS, joined};
 use bp_hotelfile::HotelRefusal;

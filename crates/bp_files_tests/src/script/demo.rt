@@ -1,5 +1,4 @@
 //! The stays that are drawn for a demo.
-
 use crate::three_nights::stay;
 use bp_script::generate;
 use std::test::Fail;

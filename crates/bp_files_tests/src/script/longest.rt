@@ -1,5 +1,4 @@
 //! The longest script, and a command too many.
-
 use super::HEADER;
 use crate::three_nights::{hotel, refusal, stays};
 use bp_script::read_script;

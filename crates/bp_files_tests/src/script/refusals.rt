@@ -1,5 +1,4 @@
 //! Scripts that are refused, each at its first place.
-
 use super::HEADER;
 use crate::three_nights::{hotel, joined, refusal, stays};
 use bp_script::read_script;

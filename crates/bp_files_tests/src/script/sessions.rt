@@ -1,5 +1,4 @@
 //! Scripts that are read: each verb, and the commands of each session.
-
 use super::HEADER;
 use crate::three_nights::{hotel, joined, stays};
 use bp_script::{Commands, read_script};
@@ -15,10 +14,12 @@ fn are(rt: &impl Abort, script: &[Commands], expected: &[&[Command]]) {
     }
 }
 
+/// A Book.
 fn book(stay: u32) -> Command {
     Command::Book { stay }
 }
 
+/// A Group.
 fn group(from: u32, to: u32, rooms: u64, amount: u64) -> Command {
     let span = Span { from, to };
     Command::Group {

@@ -1,5 +1,4 @@
 //! Forecasts and bookings: a count per code.
-
 use super::{COUNTS_HEADER, are_the_four};
 use crate::three_nights::{hotel, joined, refusal, stays};
 use bp_stayfile::{Column, TableRefusal, read_bookings, read_forecast};

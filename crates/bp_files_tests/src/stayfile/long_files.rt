@@ -1,5 +1,4 @@
 //! The greatest stays file, a stay too many, and long files that are refused early.
-
 use super::{COUNTS_HEADER, STAYS_HEADER, are_the_four};
 use crate::three_nights::{hotel, joined, refusal, stays};
 use bp_stayfile::{Column, TableRefusal, read_bookings, read_forecast, read_stays};

@@ -1,5 +1,4 @@
 //! Rows one after the other, numbers and codes.
-
 use crate::three_nights::refusal;
 use bp_stayfile::tables::{header, is_code, number_of};
 use bp_stayfile::{Column, TableRefusal};

@@ -1,5 +1,4 @@
 //! Stays files, as a spreadsheet writes them and at their limits, and each refusal at its first place.
-
 use super::{STAYS_HEADER, are_the_four};
 use crate::three_nights::{FOUR_STAYS, hotel, joined, refusal, stay};
 use bp_stayfile::{Column, TableRefusal, read_stays};

@@ -14,7 +14,9 @@ use std::alloc::Global;
 /// The bookings of these stays of a hotel. The value is the rooms sold of each night.
 #[derive(Clone, Copy)]
 pub struct BookingsFile<'a> {
+    /// The hotel, whose rooms are sold.
     pub hotel: &'a Hotel,
+    /// Its stays, whose codes the file names.
     pub stays: &'a Stays,
 }
 

@@ -12,7 +12,7 @@ use bp_types::Certificate;
 use bp_types::limits::MOST_FILE_BYTES;
 use std::alloc::Global;
 
-/// A certificate.
+/// The certificate of a problem, whichever it is. The value is the certificate.
 #[derive(Clone, Copy)]
 pub struct CertificateFile;
 

@@ -13,6 +13,7 @@ use std::alloc::Global;
 /// The forecasts of these stays. The value is the stays with their forecasts.
 #[derive(Clone, Copy)]
 pub struct ForecastFile<'a> {
+    /// The stays, whose codes the file names.
     pub stays: &'a Stays,
 }
 

@@ -10,7 +10,7 @@ use bp_hotelfile::{Hotel, read_hotel};
 use bp_types::limits::MOST_FILE_BYTES;
 use std::alloc::Global;
 
-/// A hotel.
+/// The hotel file. The value is the hotel: nights, rooms and limits.
 #[derive(Clone, Copy)]
 pub struct HotelFile;
 

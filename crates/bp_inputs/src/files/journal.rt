@@ -10,7 +10,7 @@ use bp_journal::{Journal, read};
 use bp_types::limits::MOST_JOURNAL_BYTES;
 use std::alloc::Global;
 
-/// A journal, in one of its versions.
+/// A journal, in one of its versions. The value is the list of its lines, legal or not.
 #[derive(Clone, Copy)]
 pub struct JournalFile;
 

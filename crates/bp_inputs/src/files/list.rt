@@ -35,7 +35,7 @@ impl Hotels {
     }
 }
 
-/// The list of a portfolio.
+/// The list of a portfolio. The value is the names of its hotels' files.
 #[derive(Clone, Copy)]
 pub struct ListFile;
 

@@ -12,7 +12,7 @@ use bp_types::Instance;
 use bp_types::limits::MOST_FILE_BYTES;
 use std::alloc::Global;
 
-/// A problem.
+/// A problem. The value is its instance.
 #[derive(Clone, Copy)]
 pub struct ProblemFile;
 

@@ -38,9 +38,10 @@ impl WhatIfLists {
     }
 }
 
-/// Scenarios of this problem.
+/// Scenarios of a problem. The value is their lists of changes.
 #[derive(Clone, Copy)]
 pub struct ScenariosFile<'a> {
+    /// The problem, whose nights and stays the changes name.
     pub problem: &'a Instance,
 }
 

@@ -39,10 +39,12 @@ impl Scripts {
     }
 }
 
-/// A script of the sessions on these stays of a hotel.
+/// A script of the sessions on these stays of a hotel. The value is the commands of each session.
 #[derive(Clone, Copy)]
 pub struct ScriptFile<'a> {
+    /// The hotel, whose nights the commands name.
     pub hotel: &'a Hotel,
+    /// Its stays, whose codes the commands name.
     pub stays: &'a Stays,
 }
 

@@ -11,9 +11,10 @@ use bp_stayfile::{Stays, read_stays};
 use bp_types::limits::MOST_FILE_BYTES;
 use std::alloc::Global;
 
-/// The stays of this hotel.
+/// The stays of a hotel. The value is the stays with their codes, without forecasts.
 #[derive(Clone, Copy)]
 pub struct StaysFile<'a> {
+    /// The hotel, within whose nights they are.
     pub hotel: &'a Hotel,
 }
 

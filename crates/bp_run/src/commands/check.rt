@@ -10,7 +10,7 @@ use bp_edges::Shelf;
 use bp_inputs::{CertificateFile, ProblemFile, Stop, load};
 use std::alloc::{AllocError, Global};
 
-/// Reads both files, the problem first, and checks the certificate.
+/// Reads both files, the problem first, and checks the certificate, in time that grows with nights plus stays.
 pub fn answer<S: Shelf>(
     alloc: Global,
     shelf: &mut S,
@@ -25,7 +25,7 @@ pub fn answer<S: Shelf>(
     Ok(bp_cert::check(&problem, &certificate))
 }
 
-/// The status of a verdict.
+/// The status of a verdict: done where the certificate is optimal, and else wrong.
 pub fn status_of(verdict: Verdict) -> Status
     ensures { result ≡ verdict_status verdict }
 {
@@ -35,6 +35,7 @@ pub fn status_of(verdict: Verdict) -> Status
     }
 }
 
+/// The line of a verdict, with its end.
 fn line_of(alloc: Global, verdict: Verdict) -> Result<String, AllocError>
     ensures { IfOk result (λ text. string_bytes text ≡ verdict_line verdict) }
 {
@@ -49,7 +50,7 @@ fn line_of(alloc: Global, verdict: Verdict) -> Result<String, AllocError>
     }
 }
 
-/// The line of a verdict.
+/// The text of a verdict: one line.
 pub fn text_of(alloc: Global, verdict: Verdict) -> Result<Vec<u8>, AllocError>
     ensures { IfOk result (λ text. text.items ≡ verdict_line verdict) }
 {

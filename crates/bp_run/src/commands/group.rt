@@ -33,7 +33,8 @@ pub enum GroupAnswer {
     },
 }
 
-/// Reads the problem and quotes the group, where its nights are a span of the problem.
+/// Reads the problem and quotes the group, of so many units on each night of the span, where its nights are a span of
+/// the problem.
 pub fn answer<S: Shelf>(
     alloc: Global,
     shelf: &mut S,
@@ -48,7 +49,7 @@ pub fn answer<S: Shelf>(
     Ok(group_answer(alloc, &instance, span, rooms)?)
 }
 
-// What is answered to a group of so many rooms on each night of the span.
+/// What is answered to a group of so many units on each night of the span.
 fn group_answer(
     alloc: Global,
     instance: &Instance,
@@ -63,7 +64,7 @@ fn group_answer(
     quoted::<Brand>(alloc, instance, span, rooms, Blank::new(1))
 }
 
-// A quote from a cold solve, with the searches counted in a ledger.
+/// A quote from a cold solve, with the searches counted in a ledger.
 fn quoted<L: Ledger>(
     alloc: Global,
     instance: &Instance,
@@ -97,7 +98,7 @@ fn quoted<L: Ledger>(
     }
 }
 
-/// The status of what is answered to a group.
+/// The status of what is answered to a group: done where it is quoted, and else refused.
 pub fn status_of(answer: &GroupAnswer) -> Status
     ensures { result ≡ group_status answer.now }
 {
@@ -107,6 +108,7 @@ pub fn status_of(answer: &GroupAnswer) -> Status
     }
 }
 
+/// The line of a displacement, and behind it the certificates of both optima.
 fn quote_text(
     alloc: Global,
     displacement: u128,
@@ -121,6 +123,7 @@ fn quote_text(
     Ok(text)
 }
 
+/// The line of the first night that lacks the rooms.
 fn no_room_line(alloc: Global, night: u32) -> Result<String, AllocError>
     ensures { IfOk result (λ text. string_bytes text ≡ group_said (GroupAnswer.NoRoom night)) }
 {

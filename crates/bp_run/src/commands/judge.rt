@@ -56,14 +56,14 @@ pub fn replay<S: Shelf>(
     Ok(ruled(alloc, open.house, journal)?)
 }
 
-// Whether the journal is a legal history of the house.
+/// Whether the journal is a legal history of the house.
 fn ruled(alloc: Global, house: House, journal: Journal) -> Result<Ruling, Memory>
     ensures { IfOk result (IsRuling (record { house = house; lines = journal })) }
 {
     counted::<Brand>(alloc, house, journal, Blank::new(1))
 }
 
-// The same, with the searches counted in a ledger.
+/// The same, with the searches counted in a ledger.
 fn counted<L: Ledger>(
     alloc: Global,
     house: House,
@@ -84,7 +84,7 @@ fn counted<L: Ledger>(
     }
 }
 
-/// The status of a ruling.
+/// The status of a ruling: done where the journal is legal, and else wrong.
 pub fn status_of(ruling: Ruling) -> Status
     ensures { result ≡ ruling_status ruling }
 {
@@ -94,6 +94,7 @@ pub fn status_of(ruling: Ruling) -> Status
     }
 }
 
+/// The line of a journal that is not legal: the place, and the name of the rule.
 fn illegal_line(alloc: Global, place: u64, rule: Cause) -> Result<String, AllocError>
     ensures { IfOk result (λ text. string_bytes text ≡ ruling_line (Ruling.Illegal place rule)) }
 {
@@ -109,6 +110,7 @@ fn illegal_line(alloc: Global, place: u64, rule: Cause) -> Result<String, AllocE
     }
 }
 
+/// The line of a ruling, with its end.
 fn line_of(alloc: Global, ruling: Ruling) -> Result<String, AllocError>
     ensures { IfOk result (λ text. string_bytes text ≡ ruling_line ruling) }
 {
@@ -118,7 +120,7 @@ fn line_of(alloc: Global, ruling: Ruling) -> Result<String, AllocError>
     }
 }
 
-/// The line of a ruling.
+/// The text of a ruling: one line.
 pub fn text_of(alloc: Global, ruling: Ruling) -> Result<Vec<u8>, AllocError>
     ensures { IfOk result (λ text. text.items ≡ ruling_line ruling) }
 {

@@ -68,7 +68,7 @@ impl Model for Runs {
     ghost invariant = { λ r. length r.list.items ≤ MOST_HOTELS };
 }
 
-// The names of a hotel's four files.
+/// The names of a hotel's four files.
 fn files_of<'a>(names: &'a Names) -> HotelFiles<'a>
     ensures { named result ≡ four_names names.entry.now }
 {
@@ -80,7 +80,7 @@ fn files_of<'a>(names: &'a Names) -> HotelFiles<'a>
     }
 }
 
-// Puts one more hotel behind the others.
+/// Puts one more hotel behind the others.
 fn keep(hotels: &mut Vec<Staged>, staged: Staged) -> Result<(), Memory>
     ensures { OnOk result (hotels.new.items ≡ hotels.old.items ++ staged ∷ []) }
 {
@@ -88,7 +88,7 @@ fn keep(hotels: &mut Vec<Staged>, staged: Staged) -> Result<(), Memory>
     Ok(())
 }
 
-// Reads the files of hotels by their names, and puts each hotel behind those before it.
+/// Reads the files of hotels by their names, and puts each hotel behind those before it.
 fn load_desks<S: Shelf>(
     alloc: Global,
     shelf: &mut S,
@@ -111,7 +111,7 @@ fn load_desks<S: Shelf>(
     Ok(())
 }
 
-// Runs the desks of all hotels.
+/// Runs the desks of all hotels.
 fn all_run<R: Wait + Threads + Sync, G: Gate>(
     rt: &R,
     alloc: Global,
@@ -147,7 +147,7 @@ pub fn answer<R: Wait + Threads + Sync, S: Shelf, G: Gate>(
     Ok(all_run(rt, alloc, hotels, workers, gate)?)
 }
 
-// Whether each hotel's run is whole.
+/// Whether each hotel's run is whole.
 fn are_whole(runs: &[Ran]) -> bool
     ensures { result ≡ list_all (λ (ran : RanValue). ran.whole) runs.now }
 {
@@ -165,7 +165,7 @@ pub fn status_of(runs: &Runs) -> Status
     }
 }
 
-// The line of a hotel, before its journal.
+/// The line of a hotel, before its journal.
 fn head_of(alloc: Global, hotel: u64, ran: &Ran) -> Result<String, AllocError>
     ensures { IfOk result (λ text. string_bytes text ≡ hotel_head hotel ran.now) }
 {
@@ -173,7 +173,7 @@ fn head_of(alloc: Global, hotel: u64, ran: &Ran) -> Result<String, AllocError>
     format!(in alloc; "hotel {hotel} {status}\n")
 }
 
-// Writes the line of a hotel.
+/// Writes the line of a hotel.
 fn write_head<K: Sink>(alloc: Global, hotel: u64, ran: &Ran, out: &mut K) -> Result<(), WriteError>
     ensures writes { Writes (K.written out.old) (K.written out.new) (hotel_head hotel ran.now) result }
     ensures failed { IsErrOf result WriteError.Failed → Rose (K.faults out.old) (K.faults out.new) }
@@ -184,7 +184,7 @@ fn write_head<K: Sink>(alloc: Global, hotel: u64, ran: &Ran, out: &mut K) -> Res
     write_text(alloc, &head_of(alloc, hotel, ran)?.into_bytes(), out)
 }
 
-// Writes the line of a hotel, and its journal behind it.
+/// Writes the line of a hotel, and its journal behind it.
 fn write_hotel<K: Sink>(alloc: Global, hotel: u64, ran: &Ran, out: &mut K) -> Result<(), WriteError>
     ensures writes { Writes (K.written out.old) (K.written out.new) (hotel_said hotel ran.now) result }
     ensures failed { IsErrOf result WriteError.Failed → Rose (K.faults out.old) (K.faults out.new) }
@@ -197,7 +197,7 @@ fn write_hotel<K: Sink>(alloc: Global, hotel: u64, ran: &Ran, out: &mut K) -> Re
     Ok(())
 }
 
-// Writes the hotels from one with this number on.
+/// Writes the hotels from one with this number on.
 fn write_from<K: Sink>(
     alloc: Global,
     hotel: u64,

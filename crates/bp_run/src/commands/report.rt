@@ -43,7 +43,7 @@ pub fn answer<S: Shelf>(
     Ok(told(alloc, open, journal)?)
 }
 
-// What is answered to the journal of a hotel.
+/// What is answered to the journal of a hotel.
 fn told(alloc: Global, inn: OpenHotel, journal: Journal) -> Result<ReportAnswer, Memory>
     requires rooms { inn.house.rooms ≡ inn.hotel.rooms }
     requires stays { inn.house.stays ≡ inn.stays.stays }
@@ -52,7 +52,7 @@ fn told(alloc: Global, inn: OpenHotel, journal: Journal) -> Result<ReportAnswer,
     counted::<Brand>(alloc, inn, journal, Blank::new(1))
 }
 
-// The same, with the searches counted in a ledger.
+/// The same, with the searches counted in a ledger.
 fn counted<L: Ledger>(
     alloc: Global,
     inn: OpenHotel,
@@ -81,7 +81,7 @@ fn counted<L: Ledger>(
     }
 }
 
-/// The status of what is answered.
+/// The status of what is answered: done where the journal is legal, and else wrong.
 pub fn status_of(answer: &ReportAnswer) -> Status
     ensures { result ≡ report_status answer.now }
 {

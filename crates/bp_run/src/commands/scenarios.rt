@@ -56,7 +56,7 @@ pub fn answer<R: Threads + Sync, S: Shelf>(
     Ok(foreseen(rt, alloc, &base, &lists)?)
 }
 
-// The outcome of each list of changes.
+/// The outcome of each list of changes.
 fn foreseen<R: Threads + Sync>(
     rt: &R,
     alloc: Global,
@@ -85,7 +85,7 @@ pub fn answer_alone<S: Shelf>(
     Ok(foreseen_alone(alloc, &base, &lists)?)
 }
 
-// The outcome of each list of changes, one after another.
+/// The outcome of each list of changes, one after another.
 fn foreseen_alone(alloc: Global, base: &Instance, lists: &WhatIfLists) -> Result<Outcomes, Memory>
     requires { All (IsAskable base.now) lists.now }
     ensures { IfOk result (λ o. AllZip (IsOutcome base.now) lists.now o) }

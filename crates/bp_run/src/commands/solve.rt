@@ -29,7 +29,7 @@ pub fn least_certificate(alloc: Global, instance: &Instance) -> Result<Certifica
     solved::<Brand>(alloc, instance, Blank::new(1))
 }
 
-// The same, with the searches counted in a ledger.
+/// The same, with the searches counted in a ledger.
 fn solved<L: Ledger>(
     alloc: Global,
     instance: &Instance,

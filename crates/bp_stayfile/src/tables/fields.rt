@@ -1,3 +1,4 @@
+//! What stands in a field: spaces at its ends, numbers and codes.
 ghost use Rattle.std.specs.Prelude.{◌≡◌, if◌then◌else◌, ◌≤◌, Some, None, length, reverse};
 ghost use Rattle.std.specs.List.{list_all};
 ghost use Rattle.std.specs.Str.{all_ascii_digits};
@@ -52,7 +53,7 @@ fn digits(bytes: &[u8]) -> Option<u64>
     }
 }
 
-/// The number that 1 to 18 decimal digits write. Leading zeros are allowed.
+/// The number that 1 to 18 decimal digits write; None of any other text. Leading zeros are allowed.
 pub fn number_of(text: &str) -> Option<u64>
     ensures { result ≡ number_of text.now }
 {
@@ -62,12 +63,14 @@ pub fn number_of(text: &str) -> Option<u64>
     digits(text.as_bytes())
 }
 
+/// A letter or digit of ASCII, a dot, an underscore or a dash.
 fn is_code_byte(byte: u8) -> bool
     ensures { result ≡ is_code_byte byte }
 {
     matches!(byte, b'A'..=b'Z' | b'a'..=b'z' | b'0'..=b'9' | b'.' | b'_' | b'-')
 }
 
+/// Whether each byte is one of these.
 fn are_code_bytes(bytes: &[u8]) -> bool
     ensures { result ≡ list_all is_code_byte bytes.now }
 {

@@ -1,3 +1,4 @@
+//! The header of a table, and its columns found by name.
 ghost use Rattle.std.specs.Prelude.{◌≡◌, ◌<◌, true, List, length, None, IfOk, IfErr, IsTrue, Err};
 ghost use Rattle.csv.specs.Records.{fields_of};
 ghost use Rattle.bp_stayfile.specs.Refusals.{IfRefused};
@@ -46,6 +47,7 @@ fn lacking(header: &ByteRecord, columns: &[Column]) -> Option<Column>
     None
 }
 
+/// The place of each column in a header that has them all.
 fn places_of(alloc: Global, header: &ByteRecord, columns: &[Column]) -> Result<Vec<usize>, Memory>
     requires { IsTrue (is_text (fields_of header.now)) }
     ensures { IfOk result (λ v. v.items ≡ places_of (fields_of header.now) columns.now) }

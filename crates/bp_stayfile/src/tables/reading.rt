@@ -1,3 +1,4 @@
+//! The records of a table, as the crate `csv` reads them from bytes in memory.
 ghost use Rattle.std.specs.Prelude.{
   ◌≡◌,
   ◌<◌,

@@ -1,3 +1,4 @@
+//! A row of a table, with what stands behind it.
 ghost use Rattle.std.specs.Prelude.{◌≡◌, ◌<◌, [], length, slice_index_or, MatchOption, IfOk, IfErr};
 ghost use Rattle.csv.specs.Records.{fields_of};
 ghost use Rattle.bp_stayfile.specs.Refusals.{IfRefused};
@@ -55,7 +56,7 @@ impl<'a> Row<'a> {
         self.line
     }
 
-    /// A field of the row, without the spaces at its ends.
+    /// A field of the row, by the place of its column among the named ones, and without the spaces at its ends.
     pub fn field(&self, column: u32) -> &str
         requires { column < length self.now.fields }
         ensures { result.now ≡ slice_index_or self.now.fields column [] }
@@ -65,7 +66,8 @@ impl<'a> Row<'a> {
 
     /// The row behind this one, if there is one.
     ///
-    /// A record is refused that has another number of fields than the header, or a field that is not UTF-8.
+    /// A record is refused, as `NotCsv`, that has another number of fields than the header, or a field that is not
+    /// UTF-8.
     pub fn next(self) -> Result<Option<Row<'a>>, TableError>
         ensures next { IfOk result (λ next. MatchOption next (IsLast self.entry) (λ row. IsNext self.entry row)) }
         ensures refused { IfErr result (λ e. IfRefused e (λ r. IsBeforeStop self.entry r)) }

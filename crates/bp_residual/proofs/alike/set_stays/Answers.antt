@@ -1,4 +1,4 @@
-use Rattle.std.proofs.Common.{◌≡◌, arith}
+use Rattle.std.proofs.Common.{arith}
 use Rattle.bp_residual.proofs.SetTo.{stays_done}
 use Rattle.bp_residual.proofs.alike.set_stays.Goals as goal
 

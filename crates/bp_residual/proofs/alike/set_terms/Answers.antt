@@ -1,4 +1,4 @@
-use Rattle.std.proofs.Common.{◌≡◌, ◌∙◌, ap}
+use Rattle.std.proofs.Common.{◌∙◌, ap}
 use Rattle.bp_types.specs.declared.change.Change.TheVariants.{Rate}
 use Rattle.bp_types.specs.Program.{Program}
 use Rattle.bp_types.specs.Changes.{changed}

@@ -8,8 +8,8 @@ split_seat-note-requires c = (search rules, search rules, splits_note _ _)
 pub join_seat-requires : goal.join_seat-requires
 join_seat-requires c = (search rules, search rules, search rules, search rules, joins_told _ _ _ _)
 
-pub load-requires : goal.load-requires
-load-requires c = (search rules, search rules, settles _ _ _ (search rules))
+pub load-view-inside-requires : goal.load-view-inside-requires
+load-view-inside-requires c = (search rules, search rules, settles _ _ _ (search rules))
 
 pub split_seat-note-requires-2 : goal.split_seat-note-requires-2
 split_seat-note-requires-2 c = (search rules, search rules, splits_note _ _)

@@ -1,6 +1,6 @@
 use Rattle.std.proofs.Common.{◌≡◌, ℕ, ◌+◌, ◌≤◌, List, ◌++◌, length}
 use Rattle.bp_text.specs.Drafts.{IsDrafted}
-use Rattle.bp_text.proofs.draft.Draft.push.Given as goal
+use Rattle.bp_text.proofs.draft.Draft.push_in_pieces.Given as goal
 
 -- a first part of the bytes is behind the draft, and the rest is left
 abbrev pub invariant-loop-rest : goal.invariant-loop-rest

@@ -1,7 +1,7 @@
 use Rattle.std.proofs.Common.{ℕ, ◌-◌, ◌<◌, ◌≤◌, map, take, slice_index}
 use Rattle.std.specs.Int.Digits.{number_from_digits}
 use Rattle.bp_text.proofs.NumberLemmas.{IsSoFar}
-use Rattle.bp_text.proofs.decimal.digits.Given as goal
+use Rattle.bp_text.proofs.decimal.many_digits.Given as goal
 
 -- the bytes before this one are digits, and the number that they write is known up to the greatest
 abbrev pub invariant-loop-byte : goal.invariant-loop-byte

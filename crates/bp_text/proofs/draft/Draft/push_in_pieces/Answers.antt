@@ -1,6 +1,6 @@
 use Rattle.std.proofs.Common.{ℕ, List, ◌++◌, arith}
 use Rattle.bp_text.proofs.DraftLemmas.{rest_stopped, piece_refused, piece_out, cut_parts, taken_more}
-use Rattle.bp_text.proofs.draft.Draft.push.Goals as goal
+use Rattle.bp_text.proofs.draft.Draft.push_in_pieces.Goals as goal
 
 -- memory was wanted before the bytes were put behind the draft
 pub returns-in_err-extend_from_slice-clause-writes : goal.returns-in_err-extend_from_slice-clause-writes

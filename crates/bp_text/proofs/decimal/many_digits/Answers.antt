@@ -1,13 +1,9 @@
-use Rattle.std.proofs.Common.{◌≡◌, ℕ, ◌+◌, ◌-◌, ◌*◌, ◌<◌, ◌≤◌, ap, ◌∙◌, sym, arith, List, length, map, take, get_or, Option, below_more, subst}
+use Rattle.std.proofs.Common.{◌≡◌, ℕ, ◌<◌, ◌≤◌, arith, Option, below_more, subst}
 use Rattle.std.specs.Option.{MatchOption}
-use Rattle.std.specs.Int.Digits.{number_from_digits}
-use Rattle.std.proofs.Math.ListN.{length-map}
-use Rattle.std.proofs.lemmas.List.{get_or-map}
-use Rattle.std.proofs.lemmas.Int.Digits.{number_more}
 use Rattle.std.specs.Str.Parse.{AllDigits, digits_value}
-use Rattle.bp_text.proofs.NumberLemmas.{no_digit, digit_more, digits_are_read}
-use Rattle.bp_text.proofs.decimal.digits.Goals as goal
-use Rattle.bp_text.proofs.decimal.digits.Goals.{then-byte-lt48-via-then-byte-lt48, then-byte-lt48-via-else-byte-lt48+then-byte-gt57}
+use Rattle.bp_text.proofs.NumberLemmas.{no_digit, next_digit, digit_more, digits_are_read}
+use Rattle.bp_text.proofs.decimal.many_digits.Goals as goal
+use Rattle.bp_text.proofs.decimal.many_digits.Goals.{then-byte-lt48-via-then-byte-lt48, then-byte-lt48-via-else-byte-lt48+then-byte-gt57}
 
 pub returns-then-byte-lt48 : goal.returns-then-byte-lt48
 returns-then-byte-lt48 c =
@@ -19,13 +15,7 @@ returns-then-byte-lt48 c =
 
 pub loop-byte-preserved : goal.loop-byte-preserved
 loop-byte-preserved c =
-    let word = c.args.bytes.now in
-    let i = c.loop-byte.byte-index in
-    let ds : List ℕ = map (λ b. b - 48) word in
-    let here : i < length word = c.loop-byte-test.true in
-    let digit : get_or ds i 0 ≡ c.from.result = get_or-map (λ b. b - 48) word i 0 0 here ∙ sym c.from.ensures in
-    let more : number_from_digits 10 (take (i + 1) ds) ≡ number_from_digits 10 (take i ds) * 10 + c.from.result =
-    number_more 10 ds i (omega (arith, length-map word (λ b. b - 48))) ∙ ap (λ d. number_from_digits 10 (take i ds) * 10 + d) digit in
+    let more = next_digit c.args.bytes.now c.loop-byte.byte-index c.from.result c.loop-byte-test.true c.from.ensures in
     record {
       digits = below_more _ _ c.loop-byte.invariant.digits (omega arith, omega arith);
       number = digit_more c.args.greatest c.from.result _ _ c.loop-byte.value c.with_digit-value.result more c.with_digit-value.ensures

@@ -57,7 +57,7 @@ fn expect_arcs_and_hops<R: Abort>(rt: &R, flow: &Flow) {
     assert_eq!(rt; flow.arc(0), stay);
     assert_eq!(rt; flow.arc(3), free);
     let hops = flow.hops_at(1);
-    assert!(rt; hops == [hop(1, true), hop(2, false), hop(3, true)].as_slice());
+    assert!(rt; hops == [hop(1, true), hop(3, true), hop(2, false)].as_slice());
 }
 
 /// An arc, forward or backward.

@@ -9,7 +9,6 @@ use Rattle.std.proofs.Common.{
   zero,
   suc,
   ◌+◌,
-  ◌<◌,
   ◌≤◌,
   List,
   [],
@@ -17,7 +16,6 @@ use Rattle.std.proofs.Common.{
   ◌++◌,
   length,
   get_or,
-  Option,
   Some,
   None,
   Result,
@@ -36,10 +34,9 @@ use Rattle.std.proofs.lemmas.Bool.{cases_eq}
 use Rattle.bp_stayfile.specs.declared.error.TableRefusal.{TableRefusal}
 use Rattle.bp_stayfile.specs.declared.error.TableError.{TableError}
 use Rattle.bp_stayfile.specs.declared.error.TableError.TheVariants.{Refused, Memory}
-use Rattle.bp_stayfile.specs.declared.error.TableRefusal.TheVariants.{NotCsv}
 use Rattle.bp_stayfile.specs.Refusals.{IfRefused}
 use Rattle.bp_stayfile.specs.Tables.{Record, Table, TableRow, IsNext, IsLast, IsBeforeStop}
-use Rattle.bp_stayfile.specs.Reading.{rows_read, unless_stopped, table_read, IsRefusedAfter, stops_at}
+use Rattle.bp_stayfile.specs.Reading.{rows_read, table_read, IsRefusedAfter, stops_at}
 
 -- what follows from a refusal follows where the error is one
 pub IfRefused-weaker : (e : TableError) (P Q : TableRefusal → Type 0) → ((r : TableRefusal) → P r → Q r) → IfRefused e P → IfRefused e Q

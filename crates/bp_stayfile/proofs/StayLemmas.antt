@@ -47,7 +47,7 @@ use Rattle.bp_hotelfile.specs.Season.{Season, night_of}
 use Rattle.bp_hotelfile.specs.Steps.{◌>>=◌}
 use Rattle.bp_stayfile.specs.declared.error.TableRefusal.{TableRefusal}
 use Rattle.bp_stayfile.specs.declared.error.TableRefusal.TheVariants.{Limit, TwiceCode}
-use Rattle.bp_stayfile.specs.Tables.{Record, Table, table_of}
+use Rattle.bp_stayfile.specs.Tables.{Record, table_of}
 use Rattle.bp_stayfile.specs.Reading.{rows_read, unless_stopped, table_read}
 use Rattle.bp_stayfile.specs.Cells.{code_in, number_in, date_in, span_in, limits_in}
 use Rattle.bp_stayfile.specs.Codes.{stay_with, IsCodes}

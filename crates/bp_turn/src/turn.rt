@@ -21,7 +21,7 @@ use std::sync::Wait;
 const PATIENCE: u32 = 16;
 
 /// How often a thread with a ticket looks for its turn before it sleeps: about as long as a turn takes.
-const LOOKS: u32 = 200;
+const LOOKS: u32 = 20;
 
 /// There was no memory.
 #[derive(Clone, Copy, PartialEq, Eq, Debug)]

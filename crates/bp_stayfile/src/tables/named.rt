@@ -90,7 +90,9 @@ pub fn header<'a>(alloc: Global, bytes: &'a [u8], columns: &[Column]) -> Result<
     ensures read { IfOk result (λ h. IsHeaderOf columns.now bytes.now h) }
     ensures refused { IfErr result (λ e. IfRefused e (λ r. table_of columns.now bytes.now ≡ Err r)) }
 {
-    let mut reader = reader_of(alloc, bytes);
+    let Ok(mut reader) = Box::new(alloc, reader_of(alloc, bytes)) else {
+        return Err(TableError::Memory);
+    };
     let mut raw = ByteRecord::new(alloc);
     if !next_record(&mut reader, &mut raw)? {
         let column = columns[0];

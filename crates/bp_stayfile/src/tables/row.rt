@@ -15,7 +15,8 @@ use std::marker::Model;
 /// One row is held at a time. Contracts see its line, its fields as texts, and the table behind it.
 #[derive(Drop)]
 pub struct Row<'a> {
-    pub(super) reader: Reader<&'a [u8]>,
+    /// On the heap: a reader holds its buffer and its tables in itself, and a row moves from record to record.
+    pub(super) reader: Box<Reader<&'a [u8]>>,
     /// The place of each named column in a record.
     pub(super) places: Vec<usize>,
     pub(super) raw: ByteRecord,
@@ -31,13 +32,13 @@ impl<'a> Model for Row<'a> {
 
     ghost Value = { TableRow };
 
-    ghost view = { λ a. record { line = a.line; fields = row_at a.places.items (fields_of a.raw); behind = rows_behind a.line a.places.items (length (fields_of a.raw)) (records_left a.reader) } };
+    ghost view = { λ a. record { line = a.line; fields = row_at a.places.items (fields_of a.raw); behind = rows_behind a.line a.places.items (length (fields_of a.raw)) (records_left a.reader.value) } };
 
     ghost invariant = { λ a. record {
-      reading : IsReading a.reader;
+      reading : IsReading a.reader.value;
       text : is_text (fields_of a.raw) ≡ true;
       wide : All (λ p. p < length (fields_of a.raw)) a.places.items;
-      few : a.line + length (records_left a.reader) < 2 ^ 64;
+      few : a.line + length (records_left a.reader.value) < 2 ^ 64;
     } };
 }
 

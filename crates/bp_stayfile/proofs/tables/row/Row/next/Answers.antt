@@ -9,6 +9,7 @@ use Rattle.bp_stayfile.proofs.tables.row.Row.next.Goals as goal
 pub returns-clause-next : goal.returns-clause-next
 returns-clause-next c =
     let next = rw c.if-not-branch.false at c.in_ok-next_record.ensures in
+    let read = ap records_left (sym c.deref_mut.ensures.value) ∙ next.1 in
     let line = c.self.inside.line in
     let places = c.self.inside.places.items in
     let width = length (fields_of c.self.inside.raw) in
@@ -20,11 +21,11 @@ returns-clause-next c =
     record {
       line = ap (λ (r : TableRow). r.line + 1) c.self.view_is;
       rows = sym (ap (λ (r : TableRow). r.behind.rows) c.self.view_is)
-          ∙ ap (λ rs. (rows_behind line places width rs).rows) next.1
+          ∙ ap (λ rs. (rows_behind line places width rs).rows) read
           ∙ rows
           ∙ ap (λ n. row_at places fields ∷ (rows_behind (line + 1) places n rest).rows) same;
       stop = sym (ap (λ (r : TableRow). r.behind.stop) c.self.view_is)
-          ∙ ap (λ rs. (rows_behind line places width rs).stop) next.1
+          ∙ ap (λ rs. (rows_behind line places width rs).stop) read
           ∙ stop
           ∙ ap (λ n. (rows_behind (line + 1) places n rest).stop) same;
       columns = ap (λ (r : TableRow). r.behind.columns) c.self.view_is;
